@@ -1,0 +1,4 @@
+pub mod Same
+pub mod Meanings
+pub mod Numbers
+pub mod Rebuilding

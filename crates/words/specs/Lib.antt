@@ -1,0 +1,5 @@
+pub mod Registers
+pub mod Fields
+pub mod Words
+pub mod Rebuilding
+pub mod Code

@@ -1,0 +1,78 @@
+// What a word can say.
+ghost use mathlib.Core.Path.{_≡_};
+ghost use Rattle.words.specs.Words.{classOf, classNumber};
+use crate::field::Field;
+use crate::field::FieldDebug;
+use crate::field::FieldPartialEq;
+use crate::register::Register;
+use crate::register::RegisterDebug;
+use crate::register::RegisterPartialEq;
+
+// Where data comes from. A register is rotated right by `rotate` places, a field by as much as brings its lowest bit to bit 7.
+#[derive(Clone, Copy, PartialEq, Eq, Debug)]
+pub enum Source {
+    Register { register: Register, rotate: u8 },
+    Field(Field),
+}
+
+// Where a result goes.
+#[derive(Clone, Copy, PartialEq, Eq, Debug)]
+pub enum Destination {
+    Register(Register),
+    Field(Field),
+}
+
+// What the arithmetic and logic unit does with the source and R0.
+#[derive(Clone, Copy, PartialEq, Eq, Debug)]
+pub enum Operation {
+    Move,
+    Add,
+    And,
+    Xor,
+}
+
+#[derive(Clone, Copy, PartialEq, Eq, Debug)]
+pub enum Instruction {
+    Alu { operation: Operation, source: Source, destination: Destination },
+    Xec { source: Source, offset: u8 },
+    Nzt { source: Source, offset: u8 },
+    Xmit { constant: u8, destination: Destination },
+    Jmp { address: u16 },
+}
+
+#[derive(Clone, Copy, PartialEq, Eq, Debug)]
+pub enum Class {
+    Move,
+    Add,
+    And,
+    Xor,
+    Xec,
+    Nzt,
+    Xmit,
+    Jmp,
+}
+
+impl Class {
+    pub fn number(self) -> u8
+        ensures { λ r. ⌜ r ≡ classNumber self ⌝ }
+    {
+        self as u8
+    }
+}
+
+impl Instruction {
+    pub fn class(self) -> Class
+        ensures { λ r. ⌜ r ≡ classOf self ⌝ }
+    {
+        match self {
+            Instruction::Alu { operation: Operation::Move, source: _, destination: _ } => Class::Move,
+            Instruction::Alu { operation: Operation::Add, source: _, destination: _ } => Class::Add,
+            Instruction::Alu { operation: Operation::And, source: _, destination: _ } => Class::And,
+            Instruction::Alu { operation: Operation::Xor, source: _, destination: _ } => Class::Xor,
+            Instruction::Xec { source: _, offset: _ } => Class::Xec,
+            Instruction::Nzt { source: _, offset: _ } => Class::Nzt,
+            Instruction::Xmit { constant: _, destination: _ } => Class::Xmit,
+            Instruction::Jmp { address: _ } => Class::Jmp,
+        }
+    }
+}
