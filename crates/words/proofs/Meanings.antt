@@ -7,7 +7,8 @@ use lib.Dec.{ltb, eqb}
 use Rattle.std.specs.Options.{isSome, Cases}
 use Rattle.std.proofs.shelf.Ways.{tells}
 use Rattle.std.specs.declared.option.Option.the-variants.{Some, None}
-use Rattle.words.specs.Words.{meaningOf, meaning, permitted, opcode, classOf, classNumber}
+use Rattle.words.specs.Words.{meaningOf, meaning, permitted, opcode}
+use Rattle.instructions.specs.Classes.{classOf, classNumber}
 
 -- a word is permitted exactly where it has a meaning
 pub meaning-permitted : (w : ℕ) → isSome (meaning w) ≡ permitted w

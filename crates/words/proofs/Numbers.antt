@@ -6,7 +6,7 @@ use native.Mathlib.Omega.{arith}
 use lib.Dec.{eqb, ltb}
 use Rattle.std.proofs.shelf.Tests.{eqb-true}
 use Rattle.std.proofs.shelf.Ways.{tells, decides-below-and}
-use Rattle.words.specs.Registers.{registerOf, numberOf}
+use Rattle.instructions.specs.Registers.{registerOf, numberOf}
 use Rattle.words.specs.Fields.{fieldOf, lengthOf}
 use Rattle.words.specs.Rebuilding.{fieldNumber}
 

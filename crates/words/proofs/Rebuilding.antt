@@ -7,7 +7,7 @@ use lib.Dec.{ltb, eqb}
 use Rattle.std.proofs.shelf.Ways.{tells}
 use Rattle.std.specs.declared.option.Option.{Option}
 use Rattle.std.specs.declared.option.Option.the-variants.{Some, None}
-use Rattle.words.specs.declared.instruction.Instruction.{Instruction}
+use Rattle.instructions.specs.declared.instruction.Instruction.{Instruction}
 use Rattle.words.specs.Words.{aluOf, xecOf, nztOf, xmitOf, meaningOf, meaning}
 use Rattle.words.specs.Rebuilding.{wordOf, partsWord, Rebuilt}
 use Rattle.words.proofs.Numbers.{number-registerOf, number-fieldOf, length-fieldOf}

@@ -6,25 +6,25 @@ use native.Mathlib.Omega.{arith}
 use native.Mathlib.Bridge.{le-prop}
 use Rattle.std.specs.Orderings.{Decides}
 use Rattle.std.proofs.shelf.Ways.{tells}
-use Rattle.words.specs.declared.field.Field.{Field}
-use Rattle.words.specs.declared.field.Side.{Side}
-use Rattle.words.specs.declared.register.Register.{Register}
-use Rattle.words.specs.declared.instruction.Source.{Source}
-use Rattle.words.specs.declared.instruction.Source.the-variants as source
-use Rattle.words.specs.declared.instruction.Destination.the-variants as destination
-use Rattle.words.specs.declared.instruction.Destination.{Destination}
-use Rattle.words.specs.declared.instruction.Operation.{Operation}
-use Rattle.words.specs.declared.instruction.Instruction.{Instruction}
+use Rattle.instructions.specs.declared.field.Field.{Field}
+use Rattle.instructions.specs.declared.field.Side.{Side}
+use Rattle.instructions.specs.declared.register.Register.{Register}
+use Rattle.instructions.specs.declared.instruction.Source.{Source}
+use Rattle.instructions.specs.declared.instruction.Source.the-variants as source
+use Rattle.instructions.specs.declared.instruction.Destination.the-variants as destination
+use Rattle.instructions.specs.declared.instruction.Destination.{Destination}
+use Rattle.instructions.specs.declared.instruction.Operation.{Operation}
+use Rattle.instructions.specs.declared.instruction.Instruction.{Instruction}
 use Rattle.words.specs.Fields.{fieldOf}
 use Rattle.words.specs.Rebuilding.{sideNumber}
-use Rattle.words.specs.contracts.instruction.Source.{as-values as sourceParts}
-use Rattle.words.specs.contracts.instruction.Destination.{as-values as destinationParts}
-use Rattle.words.specs.contracts.field.FieldPartialEq.the-impl as fieldEq
-use Rattle.words.specs.contracts.register.RegisterPartialEq.the-impl as registerEq
-use Rattle.words.specs.contracts.instruction.SourcePartialEq.the-impl as sourceEq
-use Rattle.words.specs.contracts.instruction.DestinationPartialEq.the-impl as destinationEq
-use Rattle.words.specs.contracts.instruction.OperationPartialEq.the-impl as operationEq
-use Rattle.words.specs.contracts.instruction.InstructionPartialEq.the-impl as instructionEq
+use Rattle.instructions.specs.contracts.instruction.Source.{as-values as sourceParts}
+use Rattle.instructions.specs.contracts.instruction.Destination.{as-values as destinationParts}
+use Rattle.instructions.specs.contracts.field.FieldPartialEq.the-impl as fieldEq
+use Rattle.instructions.specs.contracts.register.RegisterPartialEq.the-impl as registerEq
+use Rattle.instructions.specs.contracts.instruction.SourcePartialEq.the-impl as sourceEq
+use Rattle.instructions.specs.contracts.instruction.DestinationPartialEq.the-impl as destinationEq
+use Rattle.instructions.specs.contracts.instruction.OperationPartialEq.the-impl as operationEq
+use Rattle.instructions.specs.contracts.instruction.InstructionPartialEq.the-impl as instructionEq
 
 field-path : (s t : Side) (b c m n : ℕ) → s ≡ t → b ≡ c → m ≡ n → (p : b < 8) (q : 0 < m) (r : m ≤ 8) (u : c < 8) (v : 0 < n) (w : n ≤ 8) → _≡_ {A = Field} (record { side = s; bit = b; length = m; placed = p; nonempty = q; short = r }) (record { side = t; bit = c; length = n; placed = u; nonempty = v; short = w })
 field-path s t b c m n e f g =

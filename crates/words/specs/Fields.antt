@@ -6,9 +6,9 @@ use mathlib.Core.Bool.{cond}
 use Prim.Native.Nat.{ℕ, zero, suc, _%_, _<_, _≤_}
 use native.Mathlib.Omega.{arith}
 use lib.Dec.{ltb}
-use Rattle.words.specs.declared.field.Field.{Field}
-use Rattle.words.specs.declared.field.Side.{Side}
-use Rattle.words.specs.declared.field.Side.the-variants.{Left, Right}
+use Rattle.instructions.specs.declared.field.Field.{Field}
+use Rattle.instructions.specs.declared.field.Side.{Side}
+use Rattle.instructions.specs.declared.field.Side.the-variants.{Left, Right}
 
 abbrev pub sideOf : ℕ → Side
 sideOf n = cond (ltb n 24) Left Right

@@ -1,4 +1,3 @@
-pub mod Registers
 pub mod Fields
 pub mod Words
 pub mod Rebuilding

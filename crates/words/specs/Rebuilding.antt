@@ -6,17 +6,18 @@ use mathlib.Core.Bool.{cond}
 use Prim.Native.Nat.{ℕ, _+_, _*_, _%_, _<_}
 use Rattle.std.specs.declared.option.Option.{Option}
 use Rattle.std.specs.declared.option.Option.the-variants.{Some, None}
-use Rattle.words.specs.declared.field.Field.{Field}
-use Rattle.words.specs.declared.field.Side.{Side}
-use Rattle.words.specs.declared.field.Side.the-variants.{Left, Right}
-use Rattle.words.specs.declared.instruction.Source.{Source}
-use Rattle.words.specs.declared.instruction.Source.the-variants as source
-use Rattle.words.specs.declared.instruction.Destination.{Destination}
-use Rattle.words.specs.declared.instruction.Destination.the-variants as destination
-use Rattle.words.specs.declared.instruction.Instruction.{Instruction}
-use Rattle.words.specs.declared.instruction.Instruction.the-variants.{Alu, Xec, Nzt, Xmit, Jmp}
-use Rattle.words.specs.Registers.{numberOf}
-use Rattle.words.specs.Words.{meaning, permitted, classOf, classNumber}
+use Rattle.instructions.specs.declared.field.Field.{Field}
+use Rattle.instructions.specs.declared.field.Side.{Side}
+use Rattle.instructions.specs.declared.field.Side.the-variants.{Left, Right}
+use Rattle.instructions.specs.declared.instruction.Source.{Source}
+use Rattle.instructions.specs.declared.instruction.Source.the-variants as source
+use Rattle.instructions.specs.declared.instruction.Destination.{Destination}
+use Rattle.instructions.specs.declared.instruction.Destination.the-variants as destination
+use Rattle.instructions.specs.declared.instruction.Instruction.{Instruction}
+use Rattle.instructions.specs.declared.instruction.Instruction.the-variants.{Alu, Xec, Nzt, Xmit, Jmp}
+use Rattle.instructions.specs.Registers.{numberOf}
+use Rattle.instructions.specs.Classes.{classOf, classNumber}
+use Rattle.words.specs.Words.{meaning}
 
 abbrev pub Rebuilt : Instruction → Option ℕ → Type 0
 Rebuilt i (Some w) = (w < 65536) × (meaning w ≡ Some i)

@@ -2,24 +2,21 @@
 --   classOf, s, l, d   the four parts of a word: bits 0-2, 3-7, 8-10 and 11-15; bit 0 is the most significant one
 --   meaning w          the instruction that a word means, or none
 --   permitted w        whether the manual permits the word
---   classNumber c      the number of a class
 --   permittedBelow n   how many words below n are permitted
 use mathlib.Core.Bool.{Bool, true, false, cond, _&&_, _||_, not}
 use Prim.Native.Nat.{ℕ, zero, suc, _+_, _*_, _/_, _%_}
 use lib.Dec.{ltb, eqb}
 use Rattle.std.specs.declared.option.Option.{Option}
 use Rattle.std.specs.declared.option.Option.the-variants.{Some, None}
-use Rattle.words.specs.declared.instruction.Source.{Source}
-use Rattle.words.specs.declared.instruction.Source.the-variants as source
-use Rattle.words.specs.declared.instruction.Destination.{Destination}
-use Rattle.words.specs.declared.instruction.Destination.the-variants as destination
-use Rattle.words.specs.declared.instruction.Operation.{Operation}
-use Rattle.words.specs.declared.instruction.Operation.the-variants as operation
-use Rattle.words.specs.declared.instruction.Instruction.{Instruction}
-use Rattle.words.specs.declared.instruction.Instruction.the-variants.{Alu, Xec, Nzt, Xmit, Jmp}
-use Rattle.words.specs.declared.instruction.Class.{Class}
-use Rattle.words.specs.declared.instruction.Class.the-variants as class
-use Rattle.words.specs.Registers.{registerOf}
+use Rattle.instructions.specs.declared.instruction.Source.{Source}
+use Rattle.instructions.specs.declared.instruction.Source.the-variants as source
+use Rattle.instructions.specs.declared.instruction.Destination.{Destination}
+use Rattle.instructions.specs.declared.instruction.Destination.the-variants as destination
+use Rattle.instructions.specs.declared.instruction.Operation.{Operation}
+use Rattle.instructions.specs.declared.instruction.Operation.the-variants as operation
+use Rattle.instructions.specs.declared.instruction.Instruction.{Instruction}
+use Rattle.instructions.specs.declared.instruction.Instruction.the-variants.{Alu, Xec, Nzt, Xmit, Jmp}
+use Rattle.instructions.specs.Registers.{registerOf}
 use Rattle.words.specs.Fields.{fieldOf}
 
 abbrev pub opcode : ℕ → ℕ
@@ -94,26 +91,3 @@ permitted w = not (writesR10 w || executesTooMany w)
 unfoldable pub permittedBelow : ℕ → ℕ
 permittedBelow zero = 0
 permittedBelow (suc n) = cond (permitted n) 1 0 + permittedBelow n
-
-abbrev pub operationClass : Operation → Class
-operationClass operation.Move = class.Move
-operationClass operation.Add = class.Add
-operationClass operation.And = class.And
-operationClass operation.Xor = class.Xor
-
-abbrev pub classOf : Instruction → Class
-classOf (Alu o s d) = operationClass o
-classOf (Xec s j) = class.Xec
-classOf (Nzt s j) = class.Nzt
-classOf (Xmit j d) = class.Xmit
-classOf (Jmp a) = class.Jmp
-
-abbrev pub classNumber : Class → ℕ
-classNumber class.Move = 0
-classNumber class.Add = 1
-classNumber class.And = 2
-classNumber class.Xor = 3
-classNumber class.Xec = 4
-classNumber class.Nzt = 5
-classNumber class.Xmit = 6
-classNumber class.Jmp = 7

@@ -3,14 +3,15 @@ ghost use mathlib.Core.Path.{_≡_};
 ghost use Prim.Native.Nat.{_<_, _/_};
 ghost use Rattle.std.specs.Options.{isSome, Cases as BySome};
 ghost use Rattle.words.specs.Fields.{sideOf, lengthOf, fieldOf};
-ghost use Rattle.words.specs.Words.{sourceOf, destinationOf, constantOf, operationOf, aluOf, xecOf, meaningOf, meaning, permitted, permittedBelow, opcode, classOf, classNumber};
-use crate::field::Field;
-use crate::field::Side;
-use crate::instruction::Destination;
-use crate::instruction::Instruction;
-use crate::instruction::Operation;
-use crate::instruction::Source;
-use crate::register::Register;
+ghost use Rattle.words.specs.Words.{sourceOf, destinationOf, constantOf, operationOf, aluOf, xecOf, meaningOf, meaning, permitted, permittedBelow, opcode};
+ghost use Rattle.instructions.specs.Classes.{classOf, classNumber};
+use instructions::Field;
+use instructions::Side;
+use instructions::Destination;
+use instructions::Instruction;
+use instructions::Operation;
+use instructions::Source;
+use instructions::Register;
 
 fn length_at(code: u8) -> u8
     ensures { λ r. ⌜ r ≡ lengthOf code ⌝ }

@@ -6,12 +6,12 @@ ghost use Rattle.std.specs.declared.option.Option.the-variants.{Some, None};
 ghost use Rattle.words.specs.Rebuilding.{Rebuilt, fieldNumber, sourceNumber, destinationNumber, lengthNumber, sourceLength, destinationLength, wordOf, partsWord};
 ghost use Rattle.words.specs.Words.{permitted};
 use crate::decoding::decode;
-use crate::field::Field;
-use crate::field::Side;
-use crate::instruction::Destination;
-use crate::instruction::Instruction;
-use crate::instruction::InstructionPartialEq;
-use crate::instruction::Source;
+use instructions::Field;
+use instructions::Side;
+use instructions::Destination;
+use instructions::Instruction;
+use instructions::InstructionPartialEq;
+use instructions::Source;
 
 fn field_number(field: Field) -> u8
     ensures value { λ r. ⌜ r ≡ fieldNumber field ⌝ }

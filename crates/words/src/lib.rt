@@ -1,7 +1,4 @@
-// Instruction words of the 8X305.
-mod field;
-mod register;
-mod instruction;
+// Instruction words: what each of the 65,536 words means, the word that means a given instruction, and the words of code.
 mod code;
 mod decoding;
 mod encoding;
@@ -13,11 +10,3 @@ pub use decoding::decode;
 pub use decoding::permitted_words;
 pub use encoding::encode;
 pub use encoding::rebuild;
-pub use field::Field;
-pub use field::Side;
-pub use instruction::Class;
-pub use instruction::Destination;
-pub use instruction::Instruction;
-pub use instruction::Operation;
-pub use instruction::Source;
-pub use register::Register;

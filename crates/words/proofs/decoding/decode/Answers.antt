@@ -3,7 +3,8 @@ use Prim.Native.Nat.{_/_, _<_}
 use native.Mathlib.Omega.{arith}
 use lib.Bits.{and-mask}
 use Rattle.std.specs.Options.{isSome, Cases}
-use Rattle.words.specs.Words.{meaning, opcode, classOf, classNumber}
+use Rattle.instructions.specs.Classes.{classOf, classNumber}
+use Rattle.words.specs.Words.{meaning, opcode}
 use Rattle.words.proofs.Meanings.{meaning-permitted, meaning-class}
 use Rattle.words.proofs.decoding.decode.Needs as need
 

@@ -5,8 +5,8 @@
 use mathlib.Core.List.{List, [], _∷_}
 use Prim.Native.Nat.{ℕ, _%_}
 use lib.ListN.{getD}
-use Rattle.words.specs.declared.register.Register.{Register}
-use Rattle.words.specs.declared.register.Register.the-variants.{R0, R1, R2, R3, R4, R5, R6, R7, R10, R11, R12, R13, R14, R15, R16, R17}
+use Rattle.instructions.specs.declared.register.Register.{Register}
+use Rattle.instructions.specs.declared.register.Register.the-variants.{R0, R1, R2, R3, R4, R5, R6, R7, R10, R11, R12, R13, R14, R15, R16, R17}
 
 abbrev pub registers : List Register
 registers = R0 ∷ R1 ∷ R2 ∷ R3 ∷ R4 ∷ R5 ∷ R6 ∷ R7 ∷ R10 ∷ R11 ∷ R12 ∷ R13 ∷ R14 ∷ R15 ∷ R16 ∷ R17 ∷ []

@@ -1,6 +1,6 @@
 // What a word can say.
 ghost use mathlib.Core.Path.{_≡_};
-ghost use Rattle.words.specs.Words.{classOf, classNumber};
+ghost use Rattle.instructions.specs.Classes.{classOf, classNumber, mnemonicOf};
 use crate::field::Field;
 use crate::field::FieldDebug;
 use crate::field::FieldPartialEq;
@@ -57,6 +57,22 @@ impl Class {
         ensures { λ r. ⌜ r ≡ classNumber self ⌝ }
     {
         self as u8
+    }
+
+    // The name by which a listing has the class.
+    pub fn mnemonic(self) -> &'static str
+        ensures { λ r. ⌜ now r ≡ mnemonicOf self ⌝ }
+    {
+        match self {
+            Class::Move => "MOVE",
+            Class::Add => "ADD",
+            Class::And => "AND",
+            Class::Xor => "XOR",
+            Class::Xec => "XEC",
+            Class::Nzt => "NZT",
+            Class::Xmit => "XMIT",
+            Class::Jmp => "JMP",
+        }
     }
 }
 

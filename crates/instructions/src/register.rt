@@ -1,7 +1,7 @@
 // The sixteen registers, by their octal names.
 ghost use mathlib.Core.Path.{_≡_};
 ghost use Prim.Native.Nat.{_<_};
-ghost use Rattle.words.specs.Registers.{numberOf, registerOf};
+ghost use Rattle.instructions.specs.Registers.{numberOf, registerOf};
 
 #[derive(Clone, Copy, PartialEq, Eq, Debug)]
 pub enum Register {
