@@ -11,7 +11,7 @@ use Rattle.instructions.specs.declared.register.Register.the-variants.{R0, R1,
 abbrev pub registers : List Register
 registers = R0 ∷ R1 ∷ R2 ∷ R3 ∷ R4 ∷ R5 ∷ R6 ∷ R7 ∷ R10 ∷ R11 ∷ R12 ∷ R13 ∷ R14 ∷ R15 ∷ R16 ∷ R17 ∷ []
 
-unfoldable pub registerOf : ℕ → Register
+abbrev pub registerOf : ℕ → Register
 registerOf n = getD registers (n % 16) R0
 
 abbrev pub numberOf : Register → ℕ

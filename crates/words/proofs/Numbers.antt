@@ -11,7 +11,6 @@ use Rattle.words.specs.Fields.{fieldOf, lengthOf}
 use Rattle.words.specs.Rebuilding.{fieldNumber}
 
 kept : ℕ → Bool
-unfolding registerOf
 kept n = eqb (numberOf (registerOf n)) n
 
 allKept : ℕ → Bool
@@ -19,7 +18,7 @@ allKept zero = true
 allKept (suc n) = kept n && allKept n
 
 pub number-registerOf : (n : ℕ) → n < 16 → numberOf (registerOf n) ≡ n
-unfolding kept allKept registerOf
+unfolding kept allKept
 number-registerOf n h =
     eqb-true (numberOf (registerOf n)) n
     (decides-below-and kept (λ k. kept k ≡ true) allKept (λ k. (λ e. e, λ e. e)) refl (λ k. refl) 16 .0 refl n h)

@@ -8,8 +8,8 @@ use Rattle.std.proofs.shelf.Ways.{tells}
 use Rattle.std.specs.declared.option.Option.{Option}
 use Rattle.std.specs.declared.option.Option.the-variants.{Some, None}
 use Rattle.instructions.specs.declared.instruction.Instruction.{Instruction}
-use Rattle.words.specs.Words.{aluOf, xecOf, nztOf, xmitOf, meaningOf, meaning}
-use Rattle.words.specs.Rebuilding.{wordOf, partsWord, Rebuilt}
+use Rattle.words.specs.Words.{aluOf, xecOf, nztOf, xmitOf, meaningOf, meaning, Alone}
+use Rattle.words.specs.Rebuilding.{wordOf, partsWord}
 use Rattle.words.proofs.Numbers.{number-registerOf, number-fieldOf, length-fieldOf}
 
 module _ (s l d : ℕ) (hs : s < 32) (hl : l < 8) (hd : d < 32) (i : Instruction) where
@@ -36,6 +36,6 @@ parts-meaning w i hw h =
     omega (arith, e)
 
 -- no two words mean one instruction
-pub rebuilt-meaning : (w : ℕ) (i : Instruction) (r : Option ℕ) → w < 65536 → meaning w ≡ Some i → Rebuilt i r → r ≡ Some w
-rebuilt-meaning w i (Some v) hw h g = ap Some (sym (parts-meaning v i (g .0) (g .1)) ∙ parts-meaning w i hw h)
-rebuilt-meaning w i None hw h g = absurd (g w hw h)
+pub meaning-alone : (w : ℕ) (r : Option Instruction) → w < 65536 → meaning w ≡ r → Alone w r
+meaning-alone w None hw h = tt
+meaning-alone w (Some i) hw h = λ v hv g. sym (parts-meaning v i hv g) ∙ parts-meaning w i hw h

@@ -1,5 +1,5 @@
 -- The word of an instruction. Assumes nothing.
---   Rebuilt i r    r is the word that means the instruction i, and none only if no word means it
+--   Rebuilt i r    r is a word exactly if that word means the instruction i, so it is none exactly if no word does
 --   partsWord i    the word that the parts of an instruction make, whether or not it means the instruction
 use mathlib.Core.Path.{_≡_}
 use mathlib.Core.Bool.{cond}
@@ -20,8 +20,7 @@ use Rattle.instructions.specs.Classes.{classOf, classNumber}
 use Rattle.words.specs.Words.{meaning}
 
 abbrev pub Rebuilt : Instruction → Option ℕ → Type 0
-Rebuilt i (Some w) = (w < 65536) × (meaning w ≡ Some i)
-Rebuilt i None = (w : ℕ) → w < 65536 → meaning w ≡ Some i → ⊥
+Rebuilt i r = (w : ℕ) → w < 65536 → (r ≡ Some w → meaning w ≡ Some i) × (meaning w ≡ Some i → r ≡ Some w)
 
 abbrev pub sideNumber : Side → ℕ
 sideNumber Left = 16

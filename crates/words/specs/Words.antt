@@ -1,10 +1,12 @@
 -- What an instruction word means. Assumes nothing.
---   classOf, s, l, d   the four parts of a word: bits 0-2, 3-7, 8-10 and 11-15; bit 0 is the most significant one
+--   opcode, S, L, D    the four parts of a word: bits 0-2, 3-7, 8-10 and 11-15; bit 0 is the most significant one
 --   meaning w          the instruction that a word means, or none
+--   Alone w r          no word but w means what r is, if it is an instruction
 --   permitted w        whether the manual permits the word
 --   permittedBelow n   how many words below n are permitted
+use mathlib.Core.Path.{_≡_}
 use mathlib.Core.Bool.{Bool, true, false, cond, _&&_, _||_, not}
-use Prim.Native.Nat.{ℕ, zero, suc, _+_, _*_, _/_, _%_}
+use Prim.Native.Nat.{ℕ, zero, suc, _+_, _*_, _/_, _%_, _<_}
 use lib.Dec.{ltb, eqb}
 use Rattle.std.specs.declared.option.Option.{Option}
 use Rattle.std.specs.declared.option.Option.the-variants.{Some, None}
@@ -76,6 +78,11 @@ meaningOf c s l d =
 
 abbrev pub meaning : ℕ → Option Instruction
 meaning w = meaningOf (opcode w) (partS w) (partL w) (partD w)
+
+-- no other word means what w means
+abbrev pub Alone : ℕ → Option Instruction → Type 0
+Alone w None = Unit {0}
+Alone w (Some i) = (v : ℕ) → v < 65536 → meaning v ≡ Some i → v ≡ w
 
 -- R10 holds the overflow and is no destination, of MOVE to XOR in bits 11-15, of XMIT in bits 3-7
 abbrev pub writesR10 : ℕ → Bool

@@ -1,9 +1,10 @@
 // From a word to the instruction that it means.
 ghost use mathlib.Core.Path.{_≡_};
-ghost use Prim.Native.Nat.{_<_, _/_};
+ghost use mathlib.Core.Bool.{cond};
+ghost use Prim.Native.Nat.{_+_, _<_};
 ghost use Rattle.std.specs.Options.{isSome, Cases as BySome};
 ghost use Rattle.words.specs.Fields.{sideOf, lengthOf, fieldOf};
-ghost use Rattle.words.specs.Words.{sourceOf, destinationOf, constantOf, operationOf, aluOf, xecOf, meaningOf, meaning, permitted, permittedBelow, opcode};
+ghost use Rattle.words.specs.Words.{sourceOf, destinationOf, constantOf, operationOf, aluOf, xecOf, meaningOf, meaning, permitted, permittedBelow, Alone, opcode};
 ghost use Rattle.instructions.specs.Classes.{classOf, classNumber};
 use instructions::Field;
 use instructions::Side;
@@ -115,14 +116,28 @@ fn instruction_at(class: u8, s: u8, l: u8, d: u8) -> Option<Instruction>
 pub fn decode(word: u16) -> Option<Instruction>
     ensures meaning { λ r. ⌜ r ≡ meaning word ⌝ }
     ensures permitted { λ r. ⌜ isSome r ≡ permitted word ⌝ }
+    ensures alone { λ r. ⌜ Alone word r ⌝ }
     ensures class { λ r. ⌜ BySome r (Unit {0}) (λ i. classNumber (classOf i) ≡ opcode word) ⌝ }
 {
     instruction_at((word >> 13) as u8, ((word >> 8) & 31) as u8, ((word >> 5) & 7) as u8, (word & 31) as u8)
 }
 
+// The count with one word more.
+fn count_after(word: u16, before: u32) -> u32
+    requires { ⌜ before < 65536 ⌝ }
+    ensures { λ r. ⌜ r ≡ cond (permitted word) 1 0 + before ⌝ }
+{
+    if decode(word).is_some() { before + 1 } else { before }
+}
+
 // How many of the 65,536 words are permitted.
 pub fn permitted_words() -> u32
-    ensures { λ r. ⌜ r ≡ permittedBelow 65536 ⌝ }
+    ensures counted { λ r. ⌜ r ≡ permittedBelow 65536 ⌝ }
+    ensures value { λ r. ⌜ r ≡ 62720 ⌝ }
 {
-    62_720
+    let mut count = 0;
+    for word in 0..65_536u32 {
+        count = count_after(word as u16, count);
+    }
+    count
 }

@@ -1,10 +1,11 @@
 // From an instruction back to its word.
 ghost use mathlib.Core.Path.{_≡_};
 ghost use mathlib.Core.Bool.{cond};
-ghost use Prim.Native.Nat.{_<_};
+ghost use Prim.Native.Nat.{ℕ, _<_};
+ghost use Rattle.std.specs.Orderings.{Decides};
 ghost use Rattle.std.specs.declared.option.Option.the-variants.{Some, None};
 ghost use Rattle.words.specs.Rebuilding.{Rebuilt, fieldNumber, sourceNumber, destinationNumber, lengthNumber, sourceLength, destinationLength, wordOf, partsWord};
-ghost use Rattle.words.specs.Words.{permitted};
+ghost use Rattle.words.specs.Words.{meaning, permitted};
 use crate::decoding::decode;
 use instructions::Field;
 use instructions::Side;
@@ -103,22 +104,36 @@ fn parts_word(instruction: Instruction) -> u16
     }
 }
 
+// The only word that may mean the instruction.
+fn candidate(instruction: Instruction) -> u16
+    ensures { λ r. ⌜ ((w : ℕ) → w < 65536 → meaning w ≡ Some instruction → w ≡ r) ⌝ }
+{
+    parts_word(instruction)
+}
+
+fn means(word: u16, instruction: Instruction) -> bool
+    ensures { λ r. ⌜ Decides r (meaning word ≡ Some instruction) ⌝ }
+{
+    match decode(word) {
+        Some(meant) => meant == instruction,
+        None => false,
+    }
+}
+
 // The word that means the instruction, or none where no word does.
 pub fn encode(instruction: Instruction) -> Option<u16>
     ensures { λ r. ⌜ Rebuilt instruction r ⌝ }
 {
-    let word = parts_word(instruction);
-    match decode(word) {
-        Some(back) => {
-            if back == instruction { Some(word) } else { None }
-        }
-        None => None,
-    }
+    let word = candidate(instruction);
+    if means(word, instruction) { Some(word) } else { None }
 }
 
 // A word decoded and rebuilt: itself where it is permitted.
 pub fn rebuild(word: u16) -> Option<u16>
     ensures { λ r. ⌜ r ≡ cond (permitted word) (Some word) None ⌝ }
 {
-    encode(decode(word)?)
+    match decode(word) {
+        Some(instruction) => encode(instruction),
+        None => None,
+    }
 }

@@ -10,3 +10,6 @@ pub use decoding::decode;
 pub use decoding::permitted_words;
 pub use encoding::encode;
 pub use encoding::rebuild;
+
+#[cfg(test)]
+mod tests;

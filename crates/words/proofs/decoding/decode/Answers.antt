@@ -6,6 +6,7 @@ use Rattle.std.specs.Options.{isSome, Cases}
 use Rattle.instructions.specs.Classes.{classOf, classNumber}
 use Rattle.words.specs.Words.{meaning, opcode}
 use Rattle.words.proofs.Meanings.{meaning-permitted, meaning-class}
+use Rattle.words.proofs.Rebuilding.{meaning-alone}
 use Rattle.words.proofs.decoding.decode.Needs as need
 
 pub returns : need.returns
@@ -17,5 +18,6 @@ returns c =
     record {
       meaning = same;
       permitted = ap isSome same ∙ meaning-permitted w;
+      alone = meaning-alone w (c .instruction-at .result) small (sym same);
       class = subst (λ r. Cases r (Unit {0}) (λ i. classNumber (classOf i) ≡ opcode w)) (sym same) (meaning-class w small)
     }

@@ -1,0 +1,65 @@
+-- The faults of a file. Assumes nothing.
+--   faultNumber f, faultPlace f   how a fault is reported
+--   faultText f                   the same as text: `file `, the number, ` at ` and the place, both in decimal
+--   Occurs file f                 what is wrong with a file that has the fault f
+--   rank f                        the order of checking: grants are tried one by one, each by its bytes before its order
+use mathlib.Core.Path.{_≡_}
+use mathlib.Core.Logic.{_⊎_}
+use mathlib.Core.List.{List, _++_}
+use Prim.Native.Nat.{ℕ, suc, _+_, _*_, _<_, _≤_}
+use lib.Chars.{codes}
+use lib.ListN.{length}
+use Rattle.std.specs.Written.{decimal}
+use Rattle.image.specs.declared.fault.FileFault.{FileFault}
+use Rattle.image.specs.declared.fault.FileFault.the-variants.{Size, Format, WordCount, CodePlace, GrantCount, GrantPlace, Overlap, Entry, Order}
+use Rattle.image.specs.Files.{format, wordCount, codeStart, codeEnd, grantCount, grantStart, grantEnd, entryPlace, bankAt, spareAt, keyAt}
+
+abbrev pub faultNumber : FileFault → ℕ
+faultNumber Size = 1
+faultNumber Format = 2
+faultNumber WordCount = 3
+faultNumber CodePlace = 4
+faultNumber GrantCount = 5
+faultNumber GrantPlace = 6
+faultNumber Overlap = 7
+faultNumber (Entry p) = 8
+faultNumber (Order p) = 9
+
+abbrev pub faultPlace : FileFault → ℕ
+faultPlace Size = 0
+faultPlace Format = 0
+faultPlace WordCount = 4
+faultPlace CodePlace = 8
+faultPlace GrantCount = 12
+faultPlace GrantPlace = 16
+faultPlace Overlap = 16
+faultPlace (Entry p) = p
+faultPlace (Order p) = p
+
+abbrev pub faultText : FileFault → List ℕ
+faultText f = codes "file " ++ (decimal (faultNumber f) ++ (codes " at " ++ decimal (faultPlace f)))
+
+abbrev pub Occurs : List ℕ → FileFault → Type 0
+Occurs file Size = (length file < 20) ⊎ (32768 < length file)
+Occurs file Format = format file ≡ 1 → ⊥
+Occurs file WordCount = (wordCount file ≡ 0) ⊎ (8192 < wordCount file)
+Occurs file CodePlace = (codeStart file < 20) ⊎ (length file < codeEnd file)
+Occurs file GrantCount = 512 < grantCount file
+Occurs file GrantPlace = (grantStart file < 20) ⊎ (length file < grantEnd file)
+Occurs file Overlap =
+    (b : ℕ) × (codeStart file ≤ b) × (b < codeEnd file) × (grantStart file ≤ b) × (b < grantEnd file)
+Occurs file (Entry p) =
+    (k : ℕ) × (k < grantCount file) × (p ≡ entryPlace file k) × ((1 < bankAt file p) ⊎ (0 < spareAt file p))
+Occurs file (Order p) =
+    (k : ℕ) × (suc k < grantCount file) × (p ≡ entryPlace file (suc k)) × (keyAt file p ≤ keyAt file (entryPlace file k))
+
+abbrev pub rank : FileFault → ℕ
+rank Size = 1
+rank Format = 2
+rank WordCount = 3
+rank CodePlace = 4
+rank GrantCount = 5
+rank GrantPlace = 6
+rank Overlap = 7
+rank (Entry p) = 8 + 2 * p
+rank (Order p) = 9 + 2 * p

@@ -1,0 +1,6 @@
+pub mod Files
+pub mod Faults
+pub mod Entries
+pub mod Grants
+pub mod Parts
+pub mod Reading
