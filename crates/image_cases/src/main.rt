@@ -17,6 +17,7 @@ use std::io::Write;
 use words::word_count;
 
 // Where the parts of an image lie: `image words 3 at 20 grants 1 at 26`.
+#[derive(Clone, Copy)]
 struct Parts<'a>(Image<'a>);
 
 impl fmt::Display for Parts<'_> as PartsDisplay {

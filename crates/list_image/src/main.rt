@@ -5,6 +5,7 @@ use image::MOST_BYTES;
 use image::read;
 use listing::Listing;
 use listing::ListingDisplay;
+use std::alloc::Global;
 use std::env;
 use std::error::AnyError;
 use std::fs::File;
@@ -13,6 +14,7 @@ use std::io::BufWriter;
 use std::io::Read;
 use std::io::Write;
 
+#[derive(Clone, Copy)]
 enum Outcome {
     Listed,
     Refused,
