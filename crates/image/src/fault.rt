@@ -39,8 +39,8 @@ impl FileFault {
             FileFault::GrantCount => 5,
             FileFault::GrantPlace => 6,
             FileFault::Overlap => 7,
-            FileFault::Entry { place: _ } => 8,
-            FileFault::Order { place: _ } => 9,
+            FileFault::Entry { .. } => 8,
+            FileFault::Order { .. } => 9,
         }
     }
 

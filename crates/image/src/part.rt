@@ -16,8 +16,8 @@ impl<'a> Part<'a> {
         ensures { λ r. ⌜ now r ≡ partBytes (self .entry) ⌝ }
     {
         match self {
-            Part::Code { bytes, place: _ } => bytes,
-            Part::Grants { bytes, place: _ } => bytes,
+            Part::Code { bytes, .. } => bytes,
+            Part::Grants { bytes, .. } => bytes,
         }
     }
 
@@ -26,8 +26,8 @@ impl<'a> Part<'a> {
         ensures { λ r. ⌜ r ≡ partPlace (self .entry) ⌝ }
     {
         match self {
-            Part::Code { bytes: _, place } => place,
-            Part::Grants { bytes: _, place } => place,
+            Part::Code { place, .. } => place,
+            Part::Grants { place, .. } => place,
         }
     }
 }

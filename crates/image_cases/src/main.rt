@@ -28,7 +28,10 @@ impl fmt::Display for Parts<'_> as PartsDisplay {
         let entries = grants.bytes().len() / 4;
         let code_place = code.place();
         let grant_place = grants.place();
-        write!(f, "image words {words} at {code_place} grants {entries} at {grant_place}")
+        write!(
+            f,
+            "image words {words} at {code_place} grants {entries} at {grant_place}"
+        )
     }
 }
 

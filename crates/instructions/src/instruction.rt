@@ -1,6 +1,6 @@
 // What a word can say.
 ghost use mathlib.Core.Path.{_≡_};
-ghost use Rattle.instructions.specs.Classes.{classOf, classNumber, mnemonicOf};
+ghost use Rattle.instructions.specs.Classes.{operationClass, classOf, classNumber, mnemonicOf};
 use crate::field::Field;
 use crate::field::FieldDebug;
 use crate::field::FieldPartialEq;
@@ -33,11 +33,26 @@ pub enum Operation {
 
 #[derive(Clone, Copy, PartialEq, Eq, Debug)]
 pub enum Instruction {
-    Alu { operation: Operation, source: Source, destination: Destination },
-    Xec { source: Source, offset: u8 },
-    Nzt { source: Source, offset: u8 },
-    Xmit { constant: u8, destination: Destination },
-    Jmp { address: u16 },
+    Alu {
+        operation: Operation,
+        source: Source,
+        destination: Destination,
+    },
+    Xec {
+        source: Source,
+        offset: u8,
+    },
+    Nzt {
+        source: Source,
+        offset: u8,
+    },
+    Xmit {
+        constant: u8,
+        destination: Destination,
+    },
+    Jmp {
+        address: u16,
+    },
 }
 
 #[derive(Clone, Copy, PartialEq, Eq, Debug)]
@@ -76,19 +91,29 @@ impl Class {
     }
 }
 
+impl Operation {
+    fn class(self) -> Class
+        ensures { λ r. ⌜ r ≡ operationClass self ⌝ }
+    {
+        match self {
+            Operation::Move => Class::Move,
+            Operation::Add => Class::Add,
+            Operation::And => Class::And,
+            Operation::Xor => Class::Xor,
+        }
+    }
+}
+
 impl Instruction {
     pub fn class(self) -> Class
         ensures { λ r. ⌜ r ≡ classOf self ⌝ }
     {
         match self {
-            Instruction::Alu { operation: Operation::Move, source: _, destination: _ } => Class::Move,
-            Instruction::Alu { operation: Operation::Add, source: _, destination: _ } => Class::Add,
-            Instruction::Alu { operation: Operation::And, source: _, destination: _ } => Class::And,
-            Instruction::Alu { operation: Operation::Xor, source: _, destination: _ } => Class::Xor,
-            Instruction::Xec { source: _, offset: _ } => Class::Xec,
-            Instruction::Nzt { source: _, offset: _ } => Class::Nzt,
-            Instruction::Xmit { constant: _, destination: _ } => Class::Xmit,
-            Instruction::Jmp { address: _ } => Class::Jmp,
+            Instruction::Alu { operation, .. } => operation.class(),
+            Instruction::Xec { .. } => Class::Xec,
+            Instruction::Nzt { .. } => Class::Nzt,
+            Instruction::Xmit { .. } => Class::Xmit,
+            Instruction::Jmp { .. } => Class::Jmp,
         }
     }
 }

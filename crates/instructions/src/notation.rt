@@ -34,7 +34,10 @@ pub impl fmt::Display for Side as SideDisplay {
 pub impl fmt::Display for Source as SourceDisplay {
     fn fmt<W: fmt::Write>(&self, f: &mut fmt::Formatter<W>) -> fmt::Result {
         match *self {
-            Source::Register { register, rotate: 0 } => write!(f, "{register}"),
+            Source::Register {
+                register,
+                rotate: 0,
+            } => write!(f, "{register}"),
             Source::Register { register, rotate } => write!(f, "{register}({rotate:o})"),
             Source::Field(field) => write_field(f, field.side, field.bit),
         }
@@ -60,7 +63,7 @@ fn write_field<W: fmt::Write>(f: &mut fmt::Formatter<W>, side: Side, bit: u8) ->
 // The length that an instruction's word codes, if it has a bank field.
 fn source_field_length(source: Source) -> Option<u8> {
     match source {
-        Source::Register { register: _, rotate: _ } => None,
+        Source::Register { .. } => None,
         Source::Field(field) => Some(field.length),
     }
 }
@@ -83,9 +86,16 @@ pub impl fmt::Display for Instruction as InstructionDisplay {
     fn fmt<W: fmt::Write>(&self, f: &mut fmt::Formatter<W>) -> fmt::Result {
         let class = self.class();
         match *self {
-            Instruction::Alu { operation: _, source, destination } => {
+            Instruction::Alu {
+                operation: _,
+                source,
+                destination,
+            } => {
                 write!(f, "{class} {source}")?;
-                write_length(f, source_field_length(source).or(destination_field_length(destination)))?;
+                write_length(
+                    f,
+                    source_field_length(source).or(destination_field_length(destination)),
+                )?;
                 write!(f, ",{destination}")
             }
             Instruction::Xec { source, offset } => {
@@ -98,7 +108,10 @@ pub impl fmt::Display for Instruction as InstructionDisplay {
                 write_length(f, source_field_length(source))?;
                 write!(f, ",{offset:o}")
             }
-            Instruction::Xmit { constant, destination } => {
+            Instruction::Xmit {
+                constant,
+                destination,
+            } => {
                 write!(f, "{class} {constant:o}")?;
                 write_length(f, destination_field_length(destination))?;
                 write!(f, ",{destination}")

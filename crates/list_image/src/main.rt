@@ -27,15 +27,27 @@ fn bytes_of<R: Read + Drop>(heap: Global, source: R) -> io::Result<Vec<u8>> {
     Ok(bytes)
 }
 
+fn opened(rt: &LibcRuntime, path: &str) -> io::Result<Vec<u8>> {
+    bytes_of(rt.alloc(), File::open(rt, path)?)
+}
+
+// The bytes of a file, or a message that names it.
+fn file_at(rt: &LibcRuntime, path: &str) -> Result<Vec<u8>, AnyError> {
+    match opened(rt, path) {
+        Ok(bytes) => Ok(bytes),
+        Err(error) => Err(format!(rt.alloc(), "{path}: {error}")?.into()),
+    }
+}
+
 fn input(rt: &LibcRuntime) -> Result<Vec<u8>, AnyError> {
     let mut args = env::args(rt)?;
     let _program = args.next();
     let path = args.next();
     if args.next().is_some() {
-        return Err("usage: list_image [FILE]".into());
+        return Err("give one file, or none to read standard input".into());
     }
     match path {
-        Some(path) => Ok(bytes_of(rt.alloc(), File::open(rt, path.as_str())?)?),
+        Some(path) => file_at(rt, path.as_str()),
         None => Ok(bytes_of(rt.alloc(), rt.stdin())?),
     }
 }
@@ -62,6 +74,9 @@ fn main(rt: LibcRuntime) -> Result<(), AnyError> {
     match run(&rt) {
         Ok(Outcome::Listed) => Ok(()),
         Ok(Outcome::Refused) => Err("the file is refused".into()),
-        Err(error) => rt.report(Err(error)),
+        Err(error) => {
+            eprintln!(rt, "list_image: {error}")?;
+            Err(error)
+        }
     }
 }

@@ -19,8 +19,16 @@ pub fn grant_at(grants: &[u8], entry: usize) -> Option<GrantLine>
     if entry >= grants.len() / 4 {
         return None;
     }
-    let side = if grants[4 * entry] == 0 { Side::Left } else { Side::Right };
-    Some(GrantLine { side, port: grants[4 * entry + 1], mask: grants[4 * entry + 2] })
+    let side = if grants[4 * entry] == 0 {
+        Side::Left
+    } else {
+        Side::Right
+    };
+    Some(GrantLine {
+        side,
+        port: grants[4 * entry + 1],
+        mask: grants[4 * entry + 2],
+    })
 }
 
 // Bank, port in octal, mask in binary: `grant left 005 00000011`.

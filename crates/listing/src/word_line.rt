@@ -19,7 +19,11 @@ pub fn word_at(code: &[u8], address: usize) -> Option<WordLine>
     ensures { λ r. ⌜ ListsWord (now (code .entry)) address r ⌝ }
 {
     match fetch(code, address) {
-        Some(word) => Some(WordLine { address, word, meaning: decode(word) }),
+        Some(word) => Some(WordLine {
+            address,
+            word,
+            meaning: decode(word),
+        }),
         None => None,
     }
 }

@@ -1,5 +1,10 @@
 // A line of the word list: the word in hex and `-`, or its class, source, destination and rebuilt word.
 // `R1>3` is a register and its rotation, `R1` one that is not rotated, `l4.2` and `r4.2` a bank field by bit and length, `#5` a constant.
+ghost use mathlib.Core.Path.{_≡_};
+ghost use mathlib.Core.Bool.{cond};
+ghost use Prim.Native.Nat.{_+_, _<_};
+ghost use Rattle.std.specs.Options.{isSome};
+ghost use Rattle.words.specs.Words.{meaning, permitted};
 use instructions::ClassDisplay;
 use instructions::Destination;
 use instructions::Field;
@@ -12,18 +17,33 @@ use words::decode;
 use words::encode;
 
 #[derive(Clone, Copy)]
-pub struct Line {
+pub(crate) struct Line {
     word: u16,
     meaning: Option<Instruction>,
 }
 
 impl Line {
-    pub fn of(word: u16) -> Line {
-        Line { word, meaning: decode(word) }
+    pub(crate) fn of(word: u16) -> Line
+        ensures word { λ r. ⌜ r .word ≡ word ⌝ }
+        ensures meaning { λ r. ⌜ r .meaning ≡ meaning word ⌝ }
+        ensures permitted { λ r. ⌜ isSome (r .meaning) ≡ permitted word ⌝ }
+    {
+        Line {
+            word,
+            meaning: decode(word),
+        }
     }
 
-    pub fn is_permitted(&self) -> bool {
-        self.meaning.is_some()
+    // The number of permitted words with this one.
+    pub(crate) fn counted(&self, before: u32) -> u32
+        requires { ⌜ before < 65536 ⌝ }
+        ensures { λ r. ⌜ r ≡ cond (isSome (now (self .entry) .meaning)) 1 0 + before ⌝ }
+    {
+        if self.meaning.is_some() {
+            before + 1
+        } else {
+            before
+        }
     }
 }
 
@@ -37,17 +57,28 @@ fn write_field<W: fmt::Write>(f: &mut fmt::Formatter<W>, field: Field) -> fmt::R
 }
 
 // A source; `rotates` says whether the word rotates a register.
-fn write_source<W: fmt::Write>(f: &mut fmt::Formatter<W>, source: Source, rotates: bool) -> fmt::Result {
+fn write_source<W: fmt::Write>(
+    f: &mut fmt::Formatter<W>,
+    source: Source,
+    rotates: bool,
+) -> fmt::Result {
     match source {
         Source::Field(field) => write_field(f, field),
         Source::Register { register, rotate } => {
             write!(f, "{register}")?;
-            if rotates { write!(f, ">{rotate}") } else { Ok(()) }
+            if rotates {
+                write!(f, ">{rotate}")
+            } else {
+                Ok(())
+            }
         }
     }
 }
 
-fn write_destination<W: fmt::Write>(f: &mut fmt::Formatter<W>, destination: Destination) -> fmt::Result {
+fn write_destination<W: fmt::Write>(
+    f: &mut fmt::Formatter<W>,
+    destination: Destination,
+) -> fmt::Result {
     match destination {
         Destination::Register(register) => write!(f, "{register}"),
         Destination::Field(field) => write_field(f, field),
@@ -62,9 +93,16 @@ fn is_register(destination: Destination) -> bool {
 }
 
 // Source and destination. A jump has no destination.
-fn write_operands<W: fmt::Write>(f: &mut fmt::Formatter<W>, instruction: Instruction) -> fmt::Result {
+fn write_operands<W: fmt::Write>(
+    f: &mut fmt::Formatter<W>,
+    instruction: Instruction,
+) -> fmt::Result {
     match instruction {
-        Instruction::Alu { operation: _, source, destination } => {
+        Instruction::Alu {
+            operation: _,
+            source,
+            destination,
+        } => {
             write_source(f, source, is_register(destination))?;
             f.write_str(" ")?;
             write_destination(f, destination)
@@ -77,7 +115,10 @@ fn write_operands<W: fmt::Write>(f: &mut fmt::Formatter<W>, instruction: Instruc
             write_source(f, source, false)?;
             write!(f, " #{offset}")
         }
-        Instruction::Xmit { constant, destination } => {
+        Instruction::Xmit {
+            constant,
+            destination,
+        } => {
             write!(f, "#{constant} ")?;
             write_destination(f, destination)
         }
@@ -85,7 +126,10 @@ fn write_operands<W: fmt::Write>(f: &mut fmt::Formatter<W>, instruction: Instruc
     }
 }
 
-fn write_meaning<W: fmt::Write>(f: &mut fmt::Formatter<W>, instruction: Instruction) -> fmt::Result {
+fn write_meaning<W: fmt::Write>(
+    f: &mut fmt::Formatter<W>,
+    instruction: Instruction,
+) -> fmt::Result {
     let class = instruction.class();
     write!(f, " {class} ")?;
     write_operands(f, instruction)?;
@@ -95,7 +139,7 @@ fn write_meaning<W: fmt::Write>(f: &mut fmt::Formatter<W>, instruction: Instruct
     }
 }
 
-pub impl fmt::Display for Line as LineDisplay {
+pub(crate) impl fmt::Display for Line as LineDisplay {
     fn fmt<W: fmt::Write>(&self, f: &mut fmt::Formatter<W>) -> fmt::Result {
         let word = self.word;
         write!(f, "{word:04x}")?;

@@ -3,12 +3,11 @@ use mathlib.Core.Path.{_≡_, refl}
 use mathlib.Core.Bool.{Bool, true, false, cond}
 use Prim.Native.Nat.{ℕ, _+_, _*_, _/_, _%_, _<_}
 use native.Mathlib.Omega.{arith}
-use native.Mathlib.Numerals.{add-one}
 use lib.Dec.{ltb, eqb}
 use Rattle.std.specs.Options.{isSome, Cases}
 use Rattle.std.proofs.shelf.Ways.{tells}
 use Rattle.std.specs.declared.option.Option.the-variants.{Some, None}
-use Rattle.words.specs.Words.{meaningOf, meaning, permitted, permittedBelow, opcode}
+use Rattle.words.specs.Words.{meaningOf, meaning, permitted, opcode}
 use Rattle.instructions.specs.Classes.{classOf, classNumber}
 
 -- a word is permitted exactly where it has a meaning
@@ -20,16 +19,3 @@ meaning-permitted w = grind (arith, tells)
 pub meaning-class : (w : ℕ) → w < 65536 → Cases (meaning w) (Unit {0}) (λ i. classNumber (classOf i) ≡ opcode w)
 unfolding meaningOf
 meaning-class w h = grind (arith, tells)
-
-pub permittedBelow-none : permittedBelow 0 ≡ 0
-unfolding permittedBelow
-permittedBelow-none = refl
-
-pub permittedBelow-more : (n : ℕ) → permittedBelow (n + 1) ≡ cond (permitted n) 1 0 + permittedBelow n
-unfolding permittedBelow
-permittedBelow-more n = rw (add-one n)
-
--- the count, computed word by word
-pub permittedBelow-all : permittedBelow 65536 ≡ 62720
-unfolding permitted permittedBelow
-permittedBelow-all = refl

@@ -32,7 +32,7 @@ module _ (s l d : ℕ) (hs : s < 32) (hl : l < 8) (hd : d < 32) (i : Instruction
 pub parts-meaning : (w : ℕ) (i : Instruction) → w < 65536 → meaning w ≡ Some i → partsWord i ≡ w
 parts-meaning w i hw h =
     let e : partsWord i ≡ wordOf (w / 8192) (w / 256 % 32) (w / 32 % 8) (w % 32) =
-        parts-meaningOf (w / 256 % 32) (w / 32 % 8) (w % 32) (omega arith) (omega arith) (omega arith) i (w / 8192) (omega arith) h in
+    parts-meaningOf (w / 256 % 32) (w / 32 % 8) (w % 32) (omega arith) (omega arith) (omega arith) i (w / 8192) (omega arith) h in
     omega (arith, e)
 
 -- no two words mean one instruction

@@ -33,5 +33,5 @@ fieldOf n l =
       length = lengthOf (l % 8);
       placed = omega arith;
       nonempty = length-positive (l % 8);
-      short = length-at-most-8 (l % 8) (omega arith)
+      short = length-at-most-8 (l % 8) (omega arith);
     }

@@ -6,13 +6,13 @@ ghost use Rattle.std.specs.Options.{isSome, Cases as BySome};
 ghost use Rattle.words.specs.Fields.{sideOf, lengthOf, fieldOf};
 ghost use Rattle.words.specs.Words.{sourceOf, destinationOf, constantOf, operationOf, aluOf, xecOf, meaningOf, meaning, permitted, permittedBelow, Alone, opcode};
 ghost use Rattle.instructions.specs.Classes.{classOf, classNumber};
-use instructions::Field;
-use instructions::Side;
 use instructions::Destination;
+use instructions::Field;
 use instructions::Instruction;
 use instructions::Operation;
-use instructions::Source;
 use instructions::Register;
+use instructions::Side;
+use instructions::Source;
 
 fn length_at(code: u8) -> u8
     ensures { λ r. ⌜ r ≡ lengthOf code ⌝ }
@@ -32,14 +32,21 @@ fn side_at(number: u8) -> Side
 fn field_at(number: u8, code: u8) -> Field
     ensures { λ r. ⌜ r ≡ fieldOf number code ⌝ }
 {
-    Field { side: side_at(number), bit: number % 8, length: length_at(code % 8) }
+    Field {
+        side: side_at(number),
+        bit: number % 8,
+        length: length_at(code % 8),
+    }
 }
 
 fn source_at(s: u8, rotate: u8, l: u8) -> Source
     ensures { λ r. ⌜ r ≡ sourceOf s rotate l ⌝ }
 {
     if s < 16 {
-        Source::Register { register: Register::of(s), rotate }
+        Source::Register {
+            register: Register::of(s),
+            rotate,
+        }
     } else {
         Source::Field(field_at(s, l))
     }
@@ -81,7 +88,11 @@ fn alu_at(class: u8, s: u8, l: u8, d: u8) -> Option<Instruction>
     }
     let rotate = if d < 16 { l } else { 0 };
     let source = source_at(s, rotate, l);
-    Some(Instruction::Alu { operation: operation_at(class), source, destination: destination_at(d, l) })
+    Some(Instruction::Alu {
+        operation: operation_at(class),
+        source,
+        destination: destination_at(d, l),
+    })
 }
 
 fn xec_at(s: u8, l: u8, d: u8) -> Option<Instruction>
@@ -91,7 +102,10 @@ fn xec_at(s: u8, l: u8, d: u8) -> Option<Instruction>
     if s >= 16 && (l == 0 || l > 5) {
         return None;
     }
-    Some(Instruction::Xec { source: source_at(s, 0, l), offset: constant_at(s, l, d) })
+    Some(Instruction::Xec {
+        source: source_at(s, 0, l),
+        offset: constant_at(s, l, d),
+    })
 }
 
 fn instruction_at(class: u8, s: u8, l: u8, d: u8) -> Option<Instruction>
@@ -101,14 +115,22 @@ fn instruction_at(class: u8, s: u8, l: u8, d: u8) -> Option<Instruction>
     match class {
         0..=3 => alu_at(class, s, l, d),
         4 => xec_at(s, l, d),
-        5 => Some(Instruction::Nzt { source: source_at(s, 0, l), offset: constant_at(s, l, d) }),
+        5 => Some(Instruction::Nzt {
+            source: source_at(s, 0, l),
+            offset: constant_at(s, l, d),
+        }),
         6 => {
             if s == 8 {
                 return None;
             }
-            Some(Instruction::Xmit { constant: constant_at(s, l, d), destination: destination_at(s, l) })
+            Some(Instruction::Xmit {
+                constant: constant_at(s, l, d),
+                destination: destination_at(s, l),
+            })
         }
-        _ => Some(Instruction::Jmp { address: s as u16 * 256 + l as u16 * 32 + d as u16 }),
+        _ => Some(Instruction::Jmp {
+            address: s as u16 * 256 + l as u16 * 32 + d as u16,
+        }),
     }
 }
 
@@ -119,7 +141,12 @@ pub fn decode(word: u16) -> Option<Instruction>
     ensures alone { λ r. ⌜ Alone word r ⌝ }
     ensures class { λ r. ⌜ BySome r (Unit {0}) (λ i. classNumber (classOf i) ≡ opcode word) ⌝ }
 {
-    instruction_at((word >> 13) as u8, ((word >> 8) & 31) as u8, ((word >> 5) & 7) as u8, (word & 31) as u8)
+    instruction_at(
+        (word >> 13) as u8,
+        ((word >> 8) & 31) as u8,
+        ((word >> 5) & 7) as u8,
+        (word & 31) as u8,
+    )
 }
 
 // The count with one word more.
@@ -127,7 +154,11 @@ fn count_after(word: u16, before: u32) -> u32
     requires { ⌜ before < 65536 ⌝ }
     ensures { λ r. ⌜ r ≡ cond (permitted word) 1 0 + before ⌝ }
 {
-    if decode(word).is_some() { before + 1 } else { before }
+    if decode(word).is_some() {
+        before + 1
+    } else {
+        before
+    }
 }
 
 // How many of the 65,536 words are permitted.

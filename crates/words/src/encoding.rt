@@ -7,11 +7,11 @@ ghost use Rattle.std.specs.declared.option.Option.the-variants.{Some, None};
 ghost use Rattle.words.specs.Rebuilding.{Rebuilt, fieldNumber, sourceNumber, destinationNumber, lengthNumber, sourceLength, destinationLength, wordOf, partsWord};
 ghost use Rattle.words.specs.Words.{meaning, permitted};
 use crate::decoding::decode;
-use instructions::Field;
-use instructions::Side;
 use instructions::Destination;
+use instructions::Field;
 use instructions::Instruction;
 use instructions::InstructionPartialEq;
+use instructions::Side;
 use instructions::Source;
 
 fn field_number(field: Field) -> u8
@@ -29,7 +29,7 @@ fn source_number(source: Source) -> u8
     ensures bound { λ r. ⌜ r < 32 ⌝ }
 {
     match source {
-        Source::Register { register, rotate: _ } => register.number(),
+        Source::Register { register, .. } => register.number(),
         Source::Field(field) => field_number(field),
     }
 }
@@ -50,7 +50,7 @@ fn length_number(source: Source, destination: Destination) -> u8
 {
     match source {
         Source::Field(field) => field.length % 8,
-        Source::Register { register: _, rotate } => match destination {
+        Source::Register { rotate, .. } => match destination {
             Destination::Register(_) => rotate,
             Destination::Field(field) => field.length % 8,
         },
@@ -63,7 +63,7 @@ fn source_length(source: Source) -> u8
     ensures bound { λ r. ⌜ r < 8 ⌝ }
 {
     match source {
-        Source::Register { register: _, rotate: _ } => 0,
+        Source::Register { .. } => 0,
         Source::Field(field) => field.length % 8,
     }
 }
@@ -91,14 +91,41 @@ fn parts_word(instruction: Instruction) -> u16
     ensures { λ r. ⌜ r ≡ partsWord instruction ⌝ }
 {
     match instruction {
-        Instruction::Alu { operation, source, destination } => {
+        Instruction::Alu {
+            operation,
+            source,
+            destination,
+        } => {
             let l = length_number(source, destination);
-            word_of(operation as u8, source_number(source), l, destination_number(destination))
+            word_of(
+                operation as u8,
+                source_number(source),
+                l,
+                destination_number(destination),
+            )
         }
-        Instruction::Xec { source, offset } => word_of(4, source_number(source), source_length(source), offset),
-        Instruction::Nzt { source, offset } => word_of(5, source_number(source), source_length(source), offset),
-        Instruction::Xmit { constant, destination } => {
-            word_of(6, destination_number(destination), destination_length(destination), constant)
+        Instruction::Xec { source, offset } => word_of(
+            4,
+            source_number(source),
+            source_length(source),
+            offset,
+        ),
+        Instruction::Nzt { source, offset } => word_of(
+            5,
+            source_number(source),
+            source_length(source),
+            offset,
+        ),
+        Instruction::Xmit {
+            constant,
+            destination,
+        } => {
+            word_of(
+                6,
+                destination_number(destination),
+                destination_length(destination),
+                constant,
+            )
         }
         Instruction::Jmp { address } => 0xe000 + address % 8192,
     }
@@ -125,7 +152,11 @@ pub fn encode(instruction: Instruction) -> Option<u16>
     ensures { λ r. ⌜ Rebuilt instruction r ⌝ }
 {
     let word = candidate(instruction);
-    if means(word, instruction) { Some(word) } else { None }
+    if means(word, instruction) {
+        Some(word)
+    } else {
+        None
+    }
 }
 
 // A word decoded and rebuilt: itself where it is permitted.

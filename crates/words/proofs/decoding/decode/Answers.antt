@@ -13,11 +13,11 @@ pub returns : need.returns
 returns c =
     let w = c .args .word in
     let same : c .instruction-at .result ≡ meaning w =
-        simp (and-mask (w / 256) 5, and-mask (w / 32) 3, and-mask w 5) at (c .instruction-at .ensures) in
+    simp (and-mask (w / 256) 5, and-mask (w / 32) 3, and-mask w 5) at (c .instruction-at .ensures) in
     let small : w < 65536 = omega arith in
     record {
       meaning = same;
       permitted = ap isSome same ∙ meaning-permitted w;
       alone = meaning-alone w (c .instruction-at .result) small (sym same);
-      class = subst (λ r. Cases r (Unit {0}) (λ i. classNumber (classOf i) ≡ opcode w)) (sym same) (meaning-class w small)
+      class = subst (λ r. Cases r (Unit {0}) (λ i. classNumber (classOf i) ≡ opcode w)) (sym same) (meaning-class w small);
     }
