@@ -1,8 +1,8 @@
 -- The faults of a file. Assumes nothing.
---   faultNumber f, faultPlace f   how a fault is reported
---   faultText f                   the same as text: `file `, the number, ` at ` and the place, both in decimal
---   Occurs file f                 what is wrong with a file that has the fault f
---   rank f                        the order of checking: grants are tried one by one, each by its bytes before its order
+--   reported f      how a fault is reported: its number, and its place in the file
+--   faultText f     the same as text: `file `, the number, ` at ` and the place, both in decimal
+--   Occurs file f   what is wrong with a file that has the fault f
+--   rank f          the order of checking: grants are tried one by one, each by its bytes before its order
 use mathlib.Core.Path.{_≡_}
 use mathlib.Core.Logic.{_⊎_}
 use mathlib.Core.List.{List, _++_}
@@ -14,30 +14,19 @@ use Rattle.image.specs.declared.fault.FileFault.{FileFault}
 use Rattle.image.specs.declared.fault.FileFault.the-variants.{Size, Format, WordCount, CodePlace, GrantCount, GrantPlace, Overlap, Entry, Order}
 use Rattle.image.specs.Files.{format, wordCount, codeStart, codeEnd, grantCount, grantStart, grantEnd, entryPlace, bankAt, spareAt, keyAt}
 
-abbrev pub faultNumber : FileFault → ℕ
-faultNumber Size = 1
-faultNumber Format = 2
-faultNumber WordCount = 3
-faultNumber CodePlace = 4
-faultNumber GrantCount = 5
-faultNumber GrantPlace = 6
-faultNumber Overlap = 7
-faultNumber (Entry p) = 8
-faultNumber (Order p) = 9
-
-abbrev pub faultPlace : FileFault → ℕ
-faultPlace Size = 0
-faultPlace Format = 0
-faultPlace WordCount = 4
-faultPlace CodePlace = 8
-faultPlace GrantCount = 12
-faultPlace GrantPlace = 16
-faultPlace Overlap = 16
-faultPlace (Entry p) = p
-faultPlace (Order p) = p
+abbrev pub reported : FileFault → ℕ × ℕ
+reported Size = (1, 0)
+reported Format = (2, 0)
+reported WordCount = (3, 4)
+reported CodePlace = (4, 8)
+reported GrantCount = (5, 12)
+reported GrantPlace = (6, 16)
+reported Overlap = (7, 16)
+reported (Entry p) = (8, p)
+reported (Order p) = (9, p)
 
 abbrev pub faultText : FileFault → List ℕ
-faultText f = codes "file " ++ (decimal (faultNumber f) ++ (codes " at " ++ decimal (faultPlace f)))
+faultText f = codes "file " ++ (decimal (reported f .0) ++ (codes " at " ++ decimal (reported f .1)))
 
 abbrev pub Occurs : List ℕ → FileFault → Type 0
 Occurs file Size = (length file < 20) ⊎ (32768 < length file)

@@ -1,7 +1,7 @@
 // Why a file is refused.
 ghost use mathlib.Core.Path.{_≡_};
 ghost use Rattle.std.specs.declared.option.Option.the-variants.{Some};
-ghost use Rattle.image.specs.Faults.{faultNumber, faultPlace, faultText};
+ghost use Rattle.image.specs.Faults.{reported, faultText};
 use std::fmt;
 
 #[derive(Clone, Copy, PartialEq, Eq, Debug)]
@@ -27,38 +27,34 @@ pub enum FileFault {
 }
 
 impl FileFault {
-    // The number by which the fault is reported.
-    pub fn number(self) -> u8
-        ensures { λ r. ⌜ r ≡ faultNumber self ⌝ }
+    // How the fault is reported: its number and its place.
+    fn report(self) -> (u8, usize)
+        ensures { λ r. ⌜ r ≡ reported self ⌝ }
     {
         match self {
-            FileFault::Size => 1,
-            FileFault::Format => 2,
-            FileFault::WordCount => 3,
-            FileFault::CodePlace => 4,
-            FileFault::GrantCount => 5,
-            FileFault::GrantPlace => 6,
-            FileFault::Overlap => 7,
-            FileFault::Entry { .. } => 8,
-            FileFault::Order { .. } => 9,
+            FileFault::Size => (1, 0),
+            FileFault::Format => (2, 0),
+            FileFault::WordCount => (3, 4),
+            FileFault::CodePlace => (4, 8),
+            FileFault::GrantCount => (5, 12),
+            FileFault::GrantPlace => (6, 16),
+            FileFault::Overlap => (7, 16),
+            FileFault::Entry { place } => (8, place),
+            FileFault::Order { place } => (9, place),
         }
+    }
+
+    pub fn number(self) -> u8
+        ensures { λ r. ⌜ r ≡ reported self .0 ⌝ }
+    {
+        self.report().0
     }
 
     // The byte of the file at which the fault is reported.
     pub fn place(self) -> usize
-        ensures { λ r. ⌜ r ≡ faultPlace self ⌝ }
+        ensures { λ r. ⌜ r ≡ reported self .1 ⌝ }
     {
-        match self {
-            FileFault::Size => 0,
-            FileFault::Format => 0,
-            FileFault::WordCount => 4,
-            FileFault::CodePlace => 8,
-            FileFault::GrantCount => 12,
-            FileFault::GrantPlace => 16,
-            FileFault::Overlap => 16,
-            FileFault::Entry { place } => place,
-            FileFault::Order { place } => place,
-        }
+        self.report().1
     }
 }
 
