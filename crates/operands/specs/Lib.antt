@@ -1,0 +1,4 @@
+pub mod Bytes
+pub mod Operations
+pub mod Exact
+pub mod Single

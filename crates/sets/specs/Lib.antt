@@ -1,0 +1,4 @@
+pub mod Numbers
+pub mod Steps
+pub mod Mixing
+pub mod Sets
