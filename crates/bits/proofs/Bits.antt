@@ -37,7 +37,7 @@ bit-past n m k h g = omega (arith, div-below n (2 ^ k) 1 (pow-pos k) (let p : 2 
 pub bit-mod-past : (n m k : ℕ) → m ≤ k → bit (n % 2 ^ m) k ≡ 0
 bit-mod-past n m k h = bit-past (n % 2 ^ m) m k (mod-below n (2 ^ m) (pow-pos m)) h
 
-bit-half : (a k : ℕ) → bit (a / 2) k ≡ bit a (suc k)
+pub bit-half : (a k : ℕ) → bit (a / 2) k ≡ bit a (suc k)
 bit-half a k = rw (pow-succ' 2 k, div-div-eq-div-mul a 2 (2 ^ k))
 
 -- numbers of n bits are equal if their bits are

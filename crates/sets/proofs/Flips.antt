@@ -9,15 +9,10 @@ use lib.Dec.{eqb}
 use Rattle.std.proofs.shelf.Bits.{xor-lt, pow-below}
 use Rattle.std.proofs.shelf.Ways.{decides-eqb}
 use Rattle.operands.proofs.Rotations.{every, every-at}
-use Rattle.sets.specs.Numbers.{bit}
+use Rattle.bits.specs.Bits.{bit}
+use Rattle.bits.proofs.Bits.{bit-xor}
 use Rattle.sets.specs.Mixing.{clearPlaces}
 use Rattle.sets.proofs.Unions.{bit-pow-same}
-
-pub bit-and : (a b k : ℕ) → bit (bitAnd a b) k ≡ min (bit a k) (bit b k)
-bit-and a b k = rw and-shr (omega (arith, and-step (a / 2 ^ k) (b / 2 ^ k)))
-
-pub bit-xor : (a b k : ℕ) → bit (bitXor a b) k ≡ (bit a k + bit b k) % 2
-bit-xor a b k = rw xor-shr (omega (arith, xor-add-and (a / 2 ^ k) (b / 2 ^ k)))
 
 and-pow : (j k : ℕ) → bitAnd (2 ^ j) k ≡ bit k j * 2 ^ j
 and-pow j k =

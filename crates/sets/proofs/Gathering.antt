@@ -5,7 +5,8 @@ use mathlib.Core.Logic.{_⊎_, inl, inr, ⊎-elim}
 use Prim.Native.Nat.{ℕ, _+_, _-_, _^_, _<_}
 use lib.Bits.{bitOr}
 use Rattle.operands.specs.Bytes.{Bytes, Same, Every}
-use Rattle.sets.specs.Numbers.{bit, In}
+use Rattle.bits.specs.Bits.{bit}
+use Rattle.sets.specs.Numbers.{In}
 use Rattle.sets.proofs.Highest.{in-top}
 use Rattle.sets.proofs.Unions.{same-from-number, in-zero, in-or, in-or-left, in-or-right, in-all}
 

@@ -8,7 +8,7 @@ use lib.Bits.{bitOr, or-step, or-add-and}
 use lib.Count.{ones, ones-step}
 use Rattle.std.proofs.shelf.Tests.{cases-lt}
 use Rattle.sets.specs.Numbers.{In}
-use Rattle.sets.proofs.Halves.{bit-half}
+use Rattle.bits.proofs.Bits.{bit-half}
 
 -- the members of n and of m, and one of them that n lacks
 abbrev pub More : ℕ → ℕ → Type 0

@@ -5,24 +5,15 @@ use native.Mathlib.Omega.{arith}
 use native.Mathlib.Nat.{pow-succ', div-div-eq-div-mul}
 use lib.Pow.{mod-mod-pow, pow-mono}
 use Rattle.std.proofs.shelf.Bits.{field-of, mod-low, shr-high, shr-shr, pow-pos, div-below}
-use Rattle.sets.specs.Numbers.{bit}
+use Rattle.bits.specs.Bits.{bit}
+use Rattle.bits.proofs.Bits.{bit-mod}
 
 pub bit-shr : (n j k : ℕ) → bit (n / 2 ^ j) k ≡ bit n (j + k)
 bit-shr n j k = rw shr-shr
 
-pub bit-half : (n k : ℕ) → bit (n / 2) k ≡ bit n (suc k)
-bit-half n k = rw (pow-succ' 2 k, div-div-eq-div-mul n 2 (2 ^ k))
-
-pub bit-mod : (w n k : ℕ) → k < w → bit (n % 2 ^ w) k ≡ bit n k
-bit-mod w n k h =
-    let i : ℕ = w - k - 1 in
-    let e : (i + 1) + k ≡ w = omega arith in
-    let a : n % 2 ^ w / 2 ^ k ≡ n / 2 ^ k % 2 ^ (i + 1) = rw e at (field-of n (i + 1) k) in
-    rw a (mod-mod-pow (n / 2 ^ k) i 1)
-
 module _ (w high low : ℕ) (h : low < 2 ^ w) where
   pub bit-low : (k : ℕ) → k < w → bit (high * 2 ^ w + low) k ≡ bit low k
-  bit-low k lt = sym (bit-mod w (high * 2 ^ w + low) k lt) ∙ ap (λ n. bit n k) (mod-low high w low h)
+  bit-low k lt = sym (bit-mod (high * 2 ^ w + low) w k lt) ∙ ap (λ n. bit n k) (mod-low high w low h)
 
   pub bit-high : (k : ℕ) → bit (high * 2 ^ w + low) (w + k) ≡ bit high k
   bit-high k = sym (bit-shr (high * 2 ^ w + low) w k) ∙ ap (λ n. bit n k) (shr-high high w low h)
@@ -35,6 +26,3 @@ pub bit-shl-under : (w n k : ℕ) → k < w → bit (n * 2 ^ w) k ≡ 0
 bit-shl-under w n k h =
     let e : n * 2 ^ w + 0 ≡ n * 2 ^ w = omega arith in
     rw e at (bit-low w n 0 (pow-pos w) k h) ∙ omega (arith, div-below 0 (2 ^ k) 1 (pow-pos k) (omega (arith, pow-pos k)))
-
-pub bit-past : (w n k : ℕ) → n < 2 ^ w → w ≤ k → bit n k ≡ 0
-bit-past w n k h le = omega (arith, div-below n (2 ^ k) 1 (pow-pos k) (omega (arith, h, pow-mono {i = w} {j = k} le)))

@@ -6,7 +6,8 @@ use native.Mathlib.Nat.{pow-suc}
 use native.Mathlib.Omega.{arith}
 use Rattle.std.proofs.shelf.Tests.{cases-order}
 use Rattle.operands.specs.Bytes.{Same}
-use Rattle.sets.specs.Numbers.{bit, In, in-below}
+use Rattle.bits.specs.Bits.{bit}
+use Rattle.sets.specs.Numbers.{In, in-below}
 use Rattle.sets.proofs.Halves.{bit-low, bit-high}
 
 module _ (a others : ℕ) (small : others < 2 ^ a) where

@@ -7,7 +7,7 @@ use native.Mathlib.Omega.{arith}
 use lib.Count.{trailingZeros}
 use Rattle.std.proofs.shelf.Tests.{cases-eq}
 use Rattle.sets.specs.Numbers.{In}
-use Rattle.sets.proofs.Halves.{bit-half}
+use Rattle.bits.proofs.Bits.{bit-half}
 
 abbrev pub Least : ℕ → ℕ → Type 0
 Least n b = In n b × ((k : ℕ) → In n k → b ≤ k)

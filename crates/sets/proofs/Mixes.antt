@@ -6,15 +6,16 @@ use native.Mathlib.Omega.{arith}
 use lib.Bits.{bitAnd, bitOr, bitXor, or-lt}
 use Rattle.std.proofs.shelf.Tests.{cases-lt, cases-eq}
 use Rattle.operands.specs.Bytes.{Same, two}
-use Rattle.sets.specs.Numbers.{bit, In, in-below}
+use Rattle.bits.specs.Bits.{bit}
+use Rattle.sets.specs.Numbers.{In, in-below}
 use Rattle.sets.specs.Steps.{Image}
 use Rattle.sets.specs.Mixing.{mixOf, mixer, mixedBit, clearPlaces}
 use Rattle.sets.specs.declared.rows.Mix.{Mix}
 use Rattle.sets.specs.declared.rows.Mix.the-variants.{And, Xor}
-use Rattle.sets.proofs.Flips.{bit-and, flip-clear, flip-set, bit-flip, flip-flip, flip-below, flip-high, bit-clearPlaces, and-without, flip-seventh}
-use Rattle.sets.proofs.Halves.{bit-low, bit-high, bit-shr, bit-mod, bit-shl-above, bit-shl-under, bit-past}
+use Rattle.bits.proofs.Bits.{bit-and, bit-mod, bit-or, bit-past}
+use Rattle.sets.proofs.Flips.{flip-clear, flip-set, bit-flip, flip-flip, flip-below, flip-high, bit-clearPlaces, and-without, flip-seventh}
+use Rattle.sets.proofs.Halves.{bit-low, bit-high, bit-shr, bit-shl-above, bit-shl-under}
 use Rattle.sets.proofs.Turns.{wide, image-moved, bit-swapped}
-use Rattle.sets.proofs.Unions.{bit-or}
 
 -- a word: s is the length of a block
 module _ (w j s k : ℕ) (es : s ≡ 2 ^ j) (hj : j < 7) (hk : k < 128) where
@@ -35,7 +36,7 @@ module _ (w j s k : ℕ) (es : s ≡ 2 ^ j) (hj : j < 7) (hk : k < 128) where
   raised-clear : bit k j ≡ 0 → bit raised k ≡ 0
   unfolding raised
   raised-clear e =
-      bit-mod 128 (bitAnd w (clearPlaces j) * 2 ^ s) k hk ∙ ⊎-elim
+      bit-mod (bitAnd w (clearPlaces j) * 2 ^ s) 128 k hk ∙ ⊎-elim
       (λ lt. bit-shl-under s (bitAnd w (clearPlaces j)) k lt)
       (λ ge.
       let i : ℕ = k - s in
@@ -52,7 +53,7 @@ module _ (w j s k : ℕ) (es : s ≡ 2 ^ j) (hj : j < 7) (hk : k < 128) where
   raised-set e =
       let i = bitXor (2 ^ j) k in
       let d : s + i ≡ k = omega (arith, es, flip-set j k e) in
-      bit-mod 128 (bitAnd w (clearPlaces j) * 2 ^ s) k hk ∙ ap (bit (bitAnd w (clearPlaces j) * 2 ^ s)) (sym d)
+      bit-mod (bitAnd w (clearPlaces j) * 2 ^ s) 128 k hk ∙ ap (bit (bitAnd w (clearPlaces j) * 2 ^ s)) (sym d)
       ∙ bit-shl-above s (bitAnd w (clearPlaces j)) i
       ∙ omega (arith, bit-and w (clearPlaces j) i, bit-clearPlaces j i hj (omega arith), bit-flip j k, e)
 
@@ -108,7 +109,7 @@ module _ (low high : ℕ) (sl : low < 2 ^ 128) (sh : high < 2 ^ 128) where
       let small = or-lt 128 low high sl sh in
       ⊎-elim
       (λ lt. omega (arith, other, bit-low 128 0 (bitOr low high) small k lt, bit-or low high k, bit-low 128 high low sl k lt, bit-low 128 low high sh k lt))
-      (λ ge. omega (arith, bit-past 128 (wide (bitOr low high) 0) k (omega arith) ge))
+      (λ ge. omega (arith, bit-past (wide (bitOr low high) 0) 128 k (omega arith) ge))
       (cases-lt k 128)
 
 -- from places to members

@@ -11,7 +11,8 @@ use Rattle.std.proofs.shelf.Tests.{cond-true, cond-false, eq-eqb, ne-eqb}
 use Rattle.std.proofs.shelf.Ways.{decides-eqb}
 use Rattle.operands.specs.Bytes.{Bytes, Same, two}
 use Rattle.operands.proofs.Rotations.{every, every-at}
-use Rattle.sets.specs.Numbers.{bit, In, in-below}
+use Rattle.bits.specs.Bits.{bit}
+use Rattle.sets.specs.Numbers.{In, in-below}
 use Rattle.sets.specs.Steps.{Image}
 use Rattle.sets.specs.Mixing.{mixOf, mixer, wanted}
 use Rattle.sets.specs.declared.rows.Mix.{Mix}

@@ -6,7 +6,8 @@ use native.Mathlib.Omega.{arith}
 use Rattle.std.proofs.shelf.Tests.{cases-lt}
 use Rattle.operands.specs.Bytes.{Same, two}
 use Rattle.operands.specs.Bytes.Two.{sum}
-use Rattle.sets.specs.Numbers.{bit, In, in-below}
+use Rattle.bits.specs.Bits.{bit}
+use Rattle.sets.specs.Numbers.{In, in-below}
 use Rattle.sets.specs.Steps.{Image}
 use Rattle.sets.proofs.Halves.{bit-low, bit-high}
 

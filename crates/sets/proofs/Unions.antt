@@ -12,14 +12,13 @@ use Rattle.std.proofs.shelf.Tests.{cases-eq, cases-order}
 use Rattle.std.proofs.shelf.Ways.{decides-eqb}
 use Rattle.operands.specs.Bytes.{Bytes, Only, Every, Same}
 use Rattle.operands.proofs.Rotations.{every-at}
-use Rattle.sets.specs.Numbers.{bit, In, in-below}
+use Rattle.bits.specs.Bits.{bit}
+use Rattle.bits.proofs.Bits.{bit-or}
+use Rattle.sets.specs.Numbers.{In, in-below}
 
 -- equal numbers have the same members
 pub same-from-number : (n m : ℕ) (Q : Bytes) → n ≡ m → Same (In m) Q → Same (In n) Q
 same-from-number n m Q e s = let Goal : ℕ → Type 0 = λ z. Same (In z) Q in subst Goal (sym e) s
-
-pub bit-or : (a b k : ℕ) → bit (bitOr a b) k ≡ max (bit a k) (bit b k)
-bit-or a b k = rw or-shr (omega (arith, or-step (a / 2 ^ k) (b / 2 ^ k)))
 
 pub in-or : (a b k : ℕ) → In (bitOr a b) k → In a k ⊎ In b k
 in-or a b k h =

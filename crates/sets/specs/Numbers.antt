@@ -1,5 +1,4 @@
 -- Sets of bytes as numbers of 256 bits. Assumes nothing.
---   bit n k      the bit of n whose weight is 2 ^ k
 --   In n         the set of the bytes whose bits in n are 1
 --   number x     the 256 bits of x as one number
 use mathlib.Core.Path.{_≡_}
@@ -11,10 +10,8 @@ use lib.Pow.{pow-mono}
 use Rattle.std.proofs.shelf.Bits.{leading-top, div-below, le-div, pow-pos}
 use Rattle.std.proofs.shelf.Tests.{cases-lt}
 use Rattle.operands.specs.Bytes.{Bytes}
+use Rattle.bits.specs.Bits.{bit}
 use Rattle.sets.specs.declared.bits.Bits.{Bits as Words}
-
-abbrev pub bit : ℕ → ℕ → ℕ
-bit n k = n / 2 ^ k % 2
 
 abbrev pub In : ℕ → Bytes
 In n b = bit n b ≡ 1

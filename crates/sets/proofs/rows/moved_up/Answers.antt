@@ -1,9 +1,9 @@
 use mathlib.Core.Path.{_≡_, ap, _∙_}
 use Prim.Native.Nat.{ℕ, _+_, _-_, _*_, _/_, _%_, _^_}
 use native.Mathlib.Omega.{arith}
-use Rattle.sets.specs.Numbers.{bit}
-use Rattle.sets.proofs.Halves.{bit-mod, bit-shr, bit-shl-above, bit-shl-under, bit-past}
-use Rattle.sets.proofs.Unions.{bit-or}
+use Rattle.bits.specs.Bits.{bit}
+use Rattle.bits.proofs.Bits.{bit-mod, bit-or, bit-past}
+use Rattle.sets.proofs.Halves.{bit-shr, bit-shl-above, bit-shl-under}
 use Rattle.sets.proofs.rows.moved_up.Needs as need
 
 pub returns : need.returns
@@ -21,11 +21,11 @@ returns c =
           omega (
             arith,
             bit-or up down (by + k),
-            bit-mod 128 (w * 2 ^ by) (by + k) h,
+            bit-mod (w * 2 ^ by) 128 (by + k) h,
             bit-shl-above by w k,
             from (by + k),
-            bit-past 128 below (128 - by + (by + k)) (omega arith) (omega arith),
+            bit-past below 128 (128 - by + (by + k)) (omega arith) (omega arith),
           );
       under = λ k h.
-          omega (arith, bit-or up down k, bit-mod 128 (w * 2 ^ by) k (omega arith), bit-shl-under by w k h, from k);
+          omega (arith, bit-or up down k, bit-mod (w * 2 ^ by) 128 k (omega arith), bit-shl-under by w k h, from k);
     }

@@ -1,7 +1,8 @@
 use mathlib.Core.Path.{_≡_, ap, _∙_}
 use Prim.Native.Nat.{_+_, _-_, _%_}
 use native.Mathlib.Omega.{arith}
-use Rattle.sets.specs.Numbers.{bit, number}
+use Rattle.bits.specs.Bits.{bit}
+use Rattle.sets.specs.Numbers.{number}
 use Rattle.sets.proofs.Turns.{wide, bit-turned, bit-swapped, image-sum}
 use Rattle.sets.proofs.rows.sum_row.Needs as need
 

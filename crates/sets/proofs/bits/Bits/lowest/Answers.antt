@@ -3,7 +3,8 @@ use mathlib.Core.Logic.{⊎-elim}
 use Prim.Native.Nat.{ℕ, _+_, _-_}
 use native.Mathlib.Omega.{arith}
 use Rattle.std.proofs.shelf.Tests.{cases-lt}
-use Rattle.sets.specs.Numbers.{bit, number}
+use Rattle.bits.specs.Bits.{bit}
+use Rattle.sets.specs.Numbers.{number}
 use Rattle.sets.proofs.Halves.{bit-low, bit-high}
 use Rattle.sets.proofs.Unions.{in-zero}
 use Rattle.sets.proofs.bits.Bits.lowest.Needs as need
