@@ -7,13 +7,13 @@ use native.Mathlib.Omega.{arith}
 use lib.Bits.{and-le-l}
 use Rattle.std.proofs.shelf.Bits.{xor-lt}
 use Rattle.std.proofs.shelf.Tests.{cases-eq}
-use Rattle.operands.specs.Bytes.{Bytes, Inside, Same, One, Two, one, two, keptBits}
+use Rattle.operands.specs.Bytes.{Bytes, Inside, One, Two, one, two, keptBits}
 use Rattle.operands.specs.Bytes.One.{rotate, keep}
 use Rattle.operands.specs.Bytes.Two.{and, xor, sum, carry}
 use Rattle.operands.specs.Operations.{Lawful}
 use Rattle.bits.specs.Bits.{bit, carryInto}
-use Rattle.bits.specs.Mays.{Marked, May, MayCarry, OneMay, TwoMay, mayTwos, mays, LawsAt}
-use Rattle.bits.proofs.Bits.{bit-and, bit-xor, bit-mod, bit-past, bit-mod-past, bits-same, bit-rotated, bit-add, carry-out}
+use Rattle.bits.specs.Mays.{Marked, May, MayCarry, OneMay, TwoMay, mays}
+use Rattle.bits.proofs.Bits.{bit-and, bit-xor, bit-mod, bit-past, bit-mod-past, bit-rotated, bit-add, carry-out}
 
 -- sets that hold more
 
@@ -63,19 +63,6 @@ carry-bits : (P Q : Bytes) (w k : ℕ) → MayCarry P Q 8 w → TwoMay carry P Q
 carry-bits P Q w zero m = let e : w ≡ bit w 0 = omega (arith, carry-small P Q 8 w m) in subst (MayCarry P Q 8) e m
 carry-bits P Q w (suc k) m = bit-past w 1 (suc k) (omega (arith, carry-small P Q 8 w m)) (omega arith)
 
-last-bit : (P Q : Bytes) (b k : ℕ) → k < 8 → mayTwos carry P Q b → bit b k ≡ bit (b % 2) k
-last-bit P Q b zero h m = omega arith
-last-bit P Q b (suc k) h m = m .1 (suc k) h ∙ sym (bit-mod-past b 1 (suc k) (omega arith))
-
-carry-same : (P Q : Bytes) → Same (mayTwos carry P Q) (MayCarry P Q 8)
-carry-same P Q = (
-  λ b m.
-      let e : b ≡ b % 2 = bits-same 8 b (b % 2) (m .0) (omega arith) (λ k h. last-bit P Q b k h m) in
-      let f : bit b 0 ≡ b = omega arith in
-      subst (MayCarry P Q 8) f (m .1 0 (omega arith)),
-  λ b m. (omega (arith, carry-small P Q 8 b m), λ k h. carry-bits P Q b k m),
-)
-
 one-may-has : (f : One) (P : Bytes) (a k : ℕ) → a < 256 → k < 8 → P a → OneMay f P k (bit (one f a) k)
 one-may-has (rotate n) P a k ha hk p = (a, (p, sym (bit-rotated (n % 8) a k (omega arith) ha hk)))
 one-may-has (keep n) P a k ha hk p =
@@ -101,24 +88,14 @@ two-below xor a b ha hb = xor-lt 8 a b ha hb
 two-below sum a b ha hb = omega arith
 two-below carry a b ha hb = omega arith
 
-pub laws-at : (P Q U V : Bytes) → LawsAt P Q U V
-laws-at P Q U V =
-    record {
-      one-has = λ f a h p. (one-below f a h, λ k g. one-may-has f P a k h g p);
-      two-has = λ f a b ha hb p q. (two-below f a b ha hb, λ k g. two-may-has f P Q a b k ha hb g p q);
-      one-inside = λ f i. marked-inside (OneMay f P) (OneMay f U) (λ k v _. one-may-inside f P U i k v);
-      two-inside = λ f i j. marked-inside (TwoMay f P Q) (TwoMay f U V) (λ k v _. two-may-inside f P Q U V i j k v);
-      carries = carry-same P Q;
-    }
-
--- so a kind with these operations is lawful, if its operands have members and all are bytes
+-- a kind with these operations is lawful, if its operands have members and all are bytes
 pub mays-lawful : {K : Type 0} (has : K → Bytes) (some : K) → ((x : K) (b : ℕ) → has x b → b < 256) → ((x : K) → (b : ℕ) × has x b) → Lawful (mays has some)
 mays-lawful has some bytes member =
     record {
       bytes = bytes;
       member = member;
-      one-has = λ f P. laws-at P P P P .one-has f;
-      two-has = λ f P Q. laws-at P Q P Q .two-has f;
-      one-inside = λ f P U. laws-at P P U U .one-inside f;
-      two-inside = λ f P Q U V. laws-at P Q U V .two-inside f;
+      one-has = λ f P a h p. (one-below f a h, λ k g. one-may-has f P a k h g p);
+      two-has = λ f P Q a b ha hb p q. (two-below f a b ha hb, λ k g. two-may-has f P Q a b k ha hb g p q);
+      one-inside = λ f P U i. marked-inside (OneMay f P) (OneMay f U) (λ k v _. one-may-inside f P U i k v);
+      two-inside = λ f P Q U V i j. marked-inside (TwoMay f P Q) (TwoMay f U V) (λ k v _. two-may-inside f P Q U V i j k v);
     }

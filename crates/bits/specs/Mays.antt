@@ -7,13 +7,10 @@
 --   mayOnes f P, mayTwos f P Q   the bytes with a possible outcome at each bit
 --   mayEither P Q      the bytes each of whose bits some member of P or of Q has
 --   mays has some      the kind of operands that these make
---   LawsAt P Q U V     what the operations keep, at given sets
---   Passing t          the numbers that pass the test t
 use mathlib.Core.Path.{_≡_}
-use mathlib.Core.Bool.{Bool, true}
 use mathlib.Core.Logic.{_⊎_}
 use Prim.Native.Nat.{ℕ, zero, suc, _+_, _*_, _/_, _%_, _<_, _≤_}
-use Rattle.operands.specs.Bytes.{Bytes, Inside, Same, One, Two, one, two, keptBits}
+use Rattle.operands.specs.Bytes.{Bytes, One, Two, keptBits}
 use Rattle.operands.specs.Bytes.One.{rotate, keep}
 use Rattle.operands.specs.Bytes.Two.{and, xor, sum, carry}
 use Rattle.operands.specs.Operations.{Operations}
@@ -54,16 +51,3 @@ mayEither P Q = Marked (λ k v. May P k v ⊎ May Q k v)
 
 abbrev pub mays : {K : Type 0} → (K → Bytes) → K → Operations K
 mays has some = record { has = has; some = some; ones = mayOnes; twos = mayTwos }
-
-pub record LawsAt (P Q U V : Bytes) : Type 0 where
-  -- an answer has every byte that the operation gives from members
-  pub one-has : (f : One) (a : ℕ) → a < 256 → P a → mayOnes f P (one f a)
-  pub two-has : (f : Two) (a b : ℕ) → a < 256 → b < 256 → P a → Q b → mayTwos f P Q (two f a b)
-  -- inputs inside inputs give answers inside answers
-  pub one-inside : (f : One) → Inside P U → Inside (mayOnes f P) (mayOnes f U)
-  pub two-inside : (f : Two) → Inside P U → Inside Q V → Inside (mayTwos f P Q) (mayTwos f U V)
-  -- the carries are those that may come out of bit 7
-  pub carries : Same (mayTwos carry P Q) (MayCarry P Q 8)
-
-abbrev pub Passing : (ℕ → Bool) → Bytes
-Passing t b = t b ≡ true
