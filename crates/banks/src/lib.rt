@@ -1,4 +1,6 @@
 // Banks of 256 ports, and which bits of a port a program and the outside can change.
+#![tactic(auto)]
+
 mod bank;
 mod port;
 mod port_bank;

@@ -1,4 +1,6 @@
 // A machine beside its two banks: what it is made with, the calls on it and what they answer, the checksums of its banks, and bytes in hex.
+#![tactic(auto)]
+
 mod bench;
 mod call;
 mod checksum;

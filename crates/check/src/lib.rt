@@ -1,4 +1,6 @@
 // The check before burning: a file, judged over any kind of operands in lent memory.
+#![tactic(auto)]
+
 mod acceptance;
 mod fault;
 mod judging;

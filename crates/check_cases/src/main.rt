@@ -1,5 +1,7 @@
 // Judges many files and prints for each three answers: over marks with a table for 512 words and for 8,192, and over sets for 8,192.
 // A line of standard input is the name of a file beside the program.
+#![tactic(auto)]
+
 use check::{Acceptance, CheckFault, check};
 use marks::Marks;
 use operands::{LeastJoin, Operand, Spreading};

@@ -1,5 +1,7 @@
 // Checks an image file before it is burnt: the file at the path that is given, or standard input.
 // Prints one line, as `accept words 3 reached 3` or `check 15 at 1`; status 1 unless the image is accepted.
+#![tactic(auto)]
+
 mod options;
 
 use anyhow::anyhow;

@@ -1,4 +1,6 @@
 // What an instruction does, as far as engine and check share it: arithmetic over any kind of operands, the bits of fields, addresses, and the banks selected and used.
+#![tactic(auto)]
+
 mod addresses;
 mod arithmetic;
 mod fields;

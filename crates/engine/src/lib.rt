@@ -1,4 +1,6 @@
 // The engine of a module: the machine, its cycle on any code with any two banks, and why it refuses.
+#![tactic(auto)]
+
 mod bytes;
 mod cycle;
 mod datapath;

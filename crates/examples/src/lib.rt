@@ -1,4 +1,6 @@
 // Worked examples: what the definitions say of single words, fields and sums.
+#![tactic(auto)]
+
 ghost use Rattle.std.specs.Prelude.{◌<◌};
 ghost use Rattle.operands.specs.Bytes.{Same};
 ghost use Rattle.marks.specs.Marks.{marks_has};

@@ -1,5 +1,7 @@
 // The flow of a program over any kind of operands: which words run at an address, what they make of a state, where they go on,
 // and the table of states that a check grows.
+#![tactic(auto)]
+
 mod after;
 mod breach;
 mod entry;

@@ -1,4 +1,6 @@
 // The table of a program over any kind of operands, grown until it keeps the rules.
+#![tactic(auto)]
+
 mod send;
 mod step;
 mod table;

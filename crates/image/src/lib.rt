@@ -1,4 +1,6 @@
 // Image files: the code and the grants of a module, as the file's own bytes, or the first fault of the file.
+#![tactic(auto)]
+
 mod entries;
 mod fault;
 mod grants;

@@ -1,6 +1,8 @@
 // Reads many files and prints what the reader answers to each: its fault, or where the parts of the image lie.
 // A line of standard input is `file NAME`, a file beside the program, or
 // `made LENGTH FORMAT WORDS CODE GRANTS GRANT_OFFSET [PLACE BYTE]..`: zero bytes, a header, and single bytes put in place.
+#![tactic(auto)]
+
 use anyhow::anyhow;
 use image::{Image, read};
 use std::alloc::{AllocError, Global};

@@ -1,5 +1,7 @@
 // Lists the image file at the path that is given, or on standard input.
 // A refused file prints its fault, as `file 4 at 8`, and ends with status 1.
+#![tactic(auto)]
+
 use anyhow::anyhow;
 use image::{MOST_BYTES, read};
 use listing::Listing;

@@ -1,4 +1,6 @@
 // The listing of an image: the header's facts, each word with its instruction, each grant, and a last line that counts them.
+#![tactic(auto)]
+
 mod grant_line;
 mod listing;
 mod word_line;

@@ -1,4 +1,6 @@
 // Marks: operands of which each bit is known on its own.
+#![tactic(auto)]
+
 mod ends;
 mod mark;
 mod marks_join;

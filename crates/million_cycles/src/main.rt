@@ -1,4 +1,6 @@
 // A million cycles of a program that has every class of instructions. Its time is what docs/BENCHMARKS.md gives.
+#![tactic(auto)]
+
 use banks::{Bank, Port, PortBank};
 use engine::Machine;
 

@@ -1,4 +1,6 @@
 // Compares every kind of operands with brute force over all bytes, and prints how many answers it compared and how many differ.
+#![tactic(auto)]
+
 mod brute;
 mod compare;
 

@@ -1,4 +1,6 @@
 // Operands: bytes, and what stands for several bytes at once.
+#![tactic(auto)]
+
 mod byte;
 mod bytes;
 mod operand;

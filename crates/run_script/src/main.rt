@@ -1,6 +1,8 @@
 // Plays a script of calls, read from standard input, on the code of the image file at the path that is given.
 // Each call prints a line. A refused file prints its fault, as `file 4 at 8`, and ends with status 1.
 // A wrong line of the script ends it with a message and status 1; the calls before it have printed their lines.
+#![tactic(auto)]
+
 use anyhow::anyhow;
 use image::{MOST_BYTES, read};
 use scripts::play;

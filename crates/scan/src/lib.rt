@@ -1,4 +1,6 @@
 // The scan of a flow table for breaches, lowest address first.
+#![tactic(auto)]
+
 mod covers;
 mod masks;
 mod reaching;

@@ -1,5 +1,7 @@
 // Plays stored scripts, and compares what each writes with the stored answers.
 // A line of standard input names a case: the image NAME.img, its script NAME.script and the answers NAME.out, beside the program.
+#![tactic(auto)]
+
 use anyhow::anyhow;
 use image::read;
 use scripts::play;

@@ -1,4 +1,6 @@
 // Scripts of calls on a bench: how a line is read, how a script is played, and the line that answers a call.
+#![tactic(auto)]
+
 mod answer;
 mod fault;
 mod line;

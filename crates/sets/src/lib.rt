@@ -1,4 +1,6 @@
 // Sets of bytes as operands: each answer has exactly the bytes that members give.
+#![tactic(auto)]
+
 mod bits;
 mod images;
 mod operand;

@@ -1,6 +1,8 @@
 // Makes calls without a pattern on machines of accepted images, and compares what the check promises of each:
 // no cycle is refused, no withheld bit of a port is changed, both addresses stay inside the code, and every register holds a member
 // of the table's operand at the program counter. A line of standard input names an image, a file beside the program.
+#![tactic(auto)]
+
 mod call;
 mod difference;
 mod numbers;

@@ -1,4 +1,6 @@
 // The engine for callers in C or Rust, to measure and compare it from outside.
+#![tactic(auto)]
+
 ghost use Rattle.std.specs.Prelude.{◌≡◌, ◌%◌, get_or};
 ghost use Rattle.engine.specs.Runs.{run_call};
 ghost use Rattle.speed.specs.Runs.{begun, told};

@@ -1,4 +1,6 @@
 // Prints every word: what it means and the word rebuilt from that, or that it is not permitted; last how many are permitted.
+#![tactic(auto)]
+
 mod line;
 
 ghost use Rattle.std.specs.Prelude.{◌≡◌, IfOk};

@@ -1,4 +1,6 @@
 // Instruction words: what each of the 65,536 words means, the word that means a given instruction, and the words of code.
+#![tactic(auto)]
+
 mod code;
 mod decoding;
 mod encoding;

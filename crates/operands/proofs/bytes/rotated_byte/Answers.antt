@@ -6,4 +6,4 @@ pub returns : goal.returns
 returns c =
     let n = c.args.by % 8 in
     let e : n % 8 ≡ n = omega arith in
-    simp e at c.rotate-right.ensures ∙ rotated_shifts n c.args.b (omega arith) (omega arith)
+    simp e at c.rotate_right.ensures ∙ rotated_shifts n c.args.b (omega arith) (omega arith)
