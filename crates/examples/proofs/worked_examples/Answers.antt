@@ -17,6 +17,6 @@ returns c =
         executes = (refl, refl);
         branches = (refl, refl);
       };
-      marks = c.zero-or-one-plus-one.ensures;
-      set = c.zero-or-one-plus-one-2.ensures;
+      marks = c.zero_or_one_plus_one.ensures;
+      set = c.zero_or_one_plus_one-2.ensures;
     }

@@ -13,6 +13,6 @@ returns c =
     ∙ ap (λ (left : Ports). record { core = begun.core; left = left; right = c.new-right.result.ports }) c.new-left.ensures
     ∙ ap (λ (right : Ports). record { core = begun.core; left = ports; right = right }) c.new-right.ensures in
     let ran = sym (ap (λ (st : State). run_call c.args.code.now c.args.cycles st) began) ∙ c.run-finished.ensures in
-    ap (λ m. m * 256 + c.register-of.result) c.min.ensures
-    ∙ ap (λ n. min c.run-finished.result.0 longest_run * 256 + n) c.register-of.ensures
+    ap (λ m. m * 256 + c.register_of.result) c.min.ensures
+    ∙ ap (λ n. min c.run-finished.result.0 longest_run * 256 + n) c.register_of.ensures
     ∙ sym (ap (λ (r : Ran). told r c.args.register) ran)

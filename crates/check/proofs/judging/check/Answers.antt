@@ -6,8 +6,8 @@ use Rattle.check.proofs.judging.check.Goals as goal
 pub returns : goal.returns
 returns g c =
     let o = g.K.Operand.operations in
-    let read = c.in-ok-image.ensures in
-    let image = c.in-ok-image.image in
+    let read = c.in_ok-image.ensures in
+    let image = c.in_ok-image.image in
     let code = c.bytes.ensures ∙ code-bytes c.args.file.now _ _ image.code read.1.code in
     let grants = c.bytes-2.ensures ∙ grant_bytes c.args.file.now _ _ image.grants read.1.grants in
     record {

@@ -20,7 +20,7 @@ returns g c =
     let some = sym c.in-Some.is ∙ grown.0 in
     cc in
     subst (λ (r : Answer). Judged o code c.args.grants.now c.args.status.now c.args.operands.now c.grow.new.status c.grow.new.operands r) (sym c.answered.ensures)
-    (judged_scanned o g.K.Operand.lawful g.K.Spreading.joined c.join-is-least.ensures code c.args.grants.now c.args.status.now c.args.operands.now c.grow.new.status c.grow.new.operands room grown.1
-    c.scan-verdict.result c.word-count-words.result c.in-Some.reached c.word-count-words.ensures counted
+    (judged_scanned o g.K.Operand.lawful g.K.Spreading.joined c.join_is_least.ensures code c.args.grants.now c.args.status.now c.args.operands.now c.grow.new.status c.grow.new.operands room grown.1
+    c.scan-verdict.result c.word_count-words.result c.in-Some.reached c.word_count-words.ensures counted
     (room_suffices (words_in code) c.args.status.now c.grow.new.status c.args.operands.now c.grow.new.operands c.grow.auto.status c.grow.auto.operands room)
     c.scan-verdict.ensures)

@@ -5,4 +5,4 @@ use Rattle.engine.proofs.bytes.rotated.Goals as goal
 pub returns : goal.returns
 returns c =
     let x = c.constant.result in
-    value-one c.rotate-right.result x (rotate c.args.by) c.args.byte (value_only x c.args.byte c.constant.ensures) c.rotate-right.ensures
+    value-one c.rotate_right.result x (rotate c.args.by) c.args.byte (value_only x c.args.byte c.constant.ensures) c.rotate_right.ensures

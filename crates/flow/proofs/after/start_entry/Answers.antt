@@ -7,5 +7,5 @@ use Rattle.flow.proofs.after.start_entry.Goals as goal
 pub returns : goal.returns
 returns g c =
     let o = g.K.Operand.operations in
-    start-alike o _ c.all-operands.result c.keep-lowest.result c.all-operands.ensures
-    (same-ones o g.K.Operand.lawful (keep 1) _ _ _ c.keep-lowest.ensures c.all.ensures) refl refl refl
+    start-alike o _ c.all-operands.result c.keep_lowest.result c.all-operands.ensures
+    (same-ones o g.K.Operand.lawful (keep 1) _ _ _ c.keep_lowest.ensures c.all.ensures) refl refl refl

@@ -16,5 +16,5 @@ returns g c =
     let few : number_of r < length e.operands = omega arith in
     stored-alike o e _ (number_of r) (select_side r) c.args.operand low few
     (ap (λ k. set e.operands k c.args.operand) c.number.ensures.value)
-    (c.still-unready-left.ensures ∙ ap (λ (b : Option Side). (e.left && not (is_side Left b))) c.select-side-selected.ensures)
-    (c.still-unready-right.ensures ∙ ap (λ (b : Option Side). (e.right && not (is_side Right b))) c.select-side-selected.ensures)
+    (c.still_unready-left.ensures ∙ ap (λ (b : Option Side). (e.left && not (is_side Left b))) c.select_side-selected.ensures)
+    (c.still_unready-right.ensures ∙ ap (λ (b : Option Side). (e.right && not (is_side Right b))) c.select_side-selected.ensures)

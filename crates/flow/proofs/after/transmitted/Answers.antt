@@ -8,4 +8,4 @@ pub returns-in-None : goal.returns-in-None
 returns-in-None g c =
     let o = g.K.Operand.operations in
     transmitted-alike (whole_port c.args.destination) c.args.destination c.args.constant (o.has c.constant.result) (allows o c.delivered.result) (allows o c.args.entry)
-    (sym c.whole-port.ensures ∙ c.in-None.is) c.constant.ensures c.delivered.ensures
+    (sym c.whole_port.ensures ∙ c.in-None.is) c.constant.ensures c.delivered.ensures

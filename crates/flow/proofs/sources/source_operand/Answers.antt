@@ -11,11 +11,11 @@ use Rattle.flow.proofs.sources.source_operand.Goals as goal
 pub returns-in-Register : goal.returns-in-Register
 returns-in-Register g c =
     let o = g.K.Operand.operations in
-    subst (λ (s : Source). Same (o.has c.rotate-right.result) (source_bytes o s (allows o c.args.entry))) (sym c.in-Register.is)
-    (same-ones o g.K.Operand.lawful (rotate c.in-Register.rotate) _ _ _ c.rotate-right.ensures c.register-operand.ensures)
+    subst (λ (s : Source). Same (o.has c.rotate_right.result) (source_bytes o s (allows o c.args.entry))) (sym c.in-Register.is)
+    (same-ones o g.K.Operand.lawful (rotate c.in-Register.rotate) _ _ _ c.rotate_right.ensures c.register_operand.ensures)
 
 pub returns-in-Field : goal.returns-in-Field
 returns-in-Field g c =
     let o = g.K.Operand.operations in
-    subst (λ (s : Source). Same (o.has c.field-value.result) (source_bytes o s (allows o c.args.entry))) (sym c.in-Field.is)
-    (same_field o g.K.Operand.lawful c.in-Field.field _ _ _ c.field-value.ensures c.all.ensures)
+    subst (λ (s : Source). Same (o.has c.field_value.result) (source_bytes o s (allows o c.args.entry))) (sym c.in-Field.is)
+    (same_field o g.K.Operand.lawful c.in-Field.field _ _ _ c.field_value.ensures c.all.ensures)

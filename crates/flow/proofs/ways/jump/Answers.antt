@@ -4,9 +4,9 @@ use Rattle.flow.specs.Entries.{allows}
 use Rattle.flow.proofs.Jumps.{no_jump}
 use Rattle.flow.proofs.ways.jump.Goals as goal
 
-pub returns-else-has-more : goal.returns-else-has-more
-returns-else-has-more g c q =
+pub returns-else-has_more : goal.returns-else-has_more
+returns-else-has_more g c q =
     let o = g.K.Operand.operations in (
       (λ e. let z : ◌≡◌ {A = ℕ} 0 1 = cc in absurd (omega arith)),
-      λ w. absurd (no_jump o c.args.instruction c.in-Nzt.source c.in-Nzt.offset (allows o c.args.entry) c.args.address q (o.has c.source-operand.result) c.in-Nzt.is c.source-operand.ensures (λ w. both_ways c.has-more.result c.if-has-more.false (c.has-more.ensures.1 w)) w),
+      λ w. absurd (no_jump o c.args.instruction c.in-Nzt.source c.in-Nzt.offset (allows o c.args.entry) c.args.address q (o.has c.source_operand.result) c.in-Nzt.is c.source_operand.ensures (λ w. both_ways c.has_more.result c.if-has_more.false (c.has_more.ensures.1 w)) w),
     )

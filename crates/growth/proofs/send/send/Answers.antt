@@ -24,7 +24,7 @@ returns-then-risen g c =
     let lt : c.args.q < length c.args.status.now = omega arith in
     partly_flowed g.K.Operand.operations g.K.Spreading.joined g.K.Spreading.rank g.K.Spreading.top g.met.K.Spreading.bounded
     c.args.q c.args.new c.args.operands.now c.args.status.now c.loop-r.operands
-    _ _ c.loop-r.r c.loop-r.risen c.due-status.result (cc) (cc) all c.if-risen.true (cc) c.loop-r.invariant lt
+    _ _ c.loop-r.r c.loop-r.risen c.due_status.result (cc) (cc) all c.if-risen.true (cc) c.loop-r.invariant lt
 
 pub returns-else-risen : goal.returns-else-risen
 returns-else-risen g c =
@@ -38,4 +38,4 @@ offset-bounds-operands-q-in-loop-r g c =
     let n = length c.args.operands.now in
     let i = 16 * c.args.q + c.loop-r.r in
     let inside : i ≤ n = omega arith in
-    omega (arith, mul-le-mul_right {m = i} {n = n} (size (layout g.row.K)) inside, c.well-formed.0.1)
+    omega (arith, mul-le-mul_right {m = i} {n = n} (size (layout g.row.K)) inside, c.well_formed.0.1)

@@ -9,21 +9,21 @@ use Rattle.growth.proofs.Midway.{taken_up, tidy-due}
 use Rattle.growth.proofs.Easing.{taken-eased, taken-lighter, eased_then, load_falls}
 use Rattle.growth.proofs.Stepping.{runs_within, stepping_start, stepping_is, stepping_word, stepping_skip, stepping_end}
 use Rattle.growth.proofs.step.step.Goals as goal
-use Rattle.growth.proofs.step.step.Goals.{in-Some-runs-at, in-default-runs-at}
+use Rattle.growth.proofs.step.step.Goals.{in-Some-runs_at, in_default-runs_at}
 
-pub entry-at-requires : goal.entry-at-requires
-entry-at-requires g c = entry_fits (lone g.row.K.mir) (length c.args.operands.now) (omega arith) c.well-formed.1.0.1
+pub entry_at-requires : goal.entry_at-requires
+entry_at-requires g c = entry_fits (lone g.row.K.mir) (length c.args.operands.now) (omega arith) c.well_formed.1.0.1
 
-pub runs-at-requires : goal.runs-at-requires
-runs-at-requires g c = (
-  entry_fits (lone g.row.K.mir) (length c.args.operands.now) (omega arith) c.well-formed.1.0.1,
-  c.instruction-at-here.ensures ∙ cond-true _ _ _ (lt-ltb _ _ c.requires.inside),
+pub runs_at-requires : goal.runs_at-requires
+runs_at-requires g c = (
+  entry_fits (lone g.row.K.mir) (length c.args.operands.now) (omega arith) c.well_formed.1.0.1,
+  c.instruction_at-here.ensures ∙ cond-true _ _ _ (lt-ltb _ _ c.requires.inside),
 )
 
 pub pass-low-requires : goal.pass-low-requires
 pass-low-requires g c =
-    let n = c.word-count-n.ensures in (
-      entry_fits (lone g.row.K.mir) (length c.args.operands.now) (omega arith) c.well-formed.1.0.1,
+    let n = c.word_count-n.ensures in (
+      entry_fits (lone g.row.K.mir) (length c.args.operands.now) (omega arith) c.well_formed.1.0.1,
       record {
         words = omega (arith, n);
         bytes = omega (arith, n, c.loop-k.auto.status, length-set c.args.status.now c.args.p (get_or c.args.status.now c.args.p 0 % 8));
@@ -39,14 +39,14 @@ loop-k-init g c =
     let status = c.args.status.now in
     let operands = c.args.operands.now in
     let saved = c.in-Some.saved in
-    let first = c.first-target-first.result in
+    let first = c.first_target-first.result in
     let due = tidy-due (get_or status p 0) (c.requires.growing.tidy p c.requires.inside) c.requires.due in
     let ls : p < length status = omega arith in
     stepping_start o g.K.Operand.lawful g.K.Spreading.joined g.K.Spreading.rank g.K.Spreading.top code p saved (first + 0) status operands c.requires.inside ls due
-    (entered-alike o status operands p saved (c.entry-at.ensures.entry saved c.in-Some.is).1) c.requires.quiet c.requires.growing
+    (entered-alike o status operands p saved (c.entry_at.ensures.entry saved c.in-Some.is).1) c.requires.quiet c.requires.growing
     (λ k i runs.
-    let within = runs_within o code p saved c.instruction-at-here.result first c.target-count-k-end.result
-    (c.instruction-at-here.ensures ∙ cond-true _ _ _ (lt-ltb _ _ c.requires.inside)) c.first-target-first.ensures c.target-count-k-end.ensures k i runs in
+    let within = runs_within o code p saved c.instruction_at-here.result first c.target_count-k-end.result
+    (c.instruction_at-here.ensures ∙ cond-true _ _ _ (lt-ltb _ _ c.requires.inside)) c.first_target-first.ensures c.target_count-k-end.ensures k i runs in
     omega (arith, within.0))
 
 pub loop-k-preserved : goal.loop-k-preserved
@@ -61,24 +61,24 @@ loop-k-preserved g c =
     let s1 = taken_up c.args.status.now p in
     let c1 = c.args.operands.now in
     let saved = c.in-Some.saved in
-    let a = c.first-target-first.result + c.loop-k.k in
-    let a' = c.first-target-first.result + (c.loop-k.k + 1) in
-    let runs = c.runs-at.ensures in
-    elim c.match-runs-at.branch [
-      | in-Some-runs-at w ↦
-          let i = w.in-Some-runs-at.instruction in
-          stepping_is o l joined rank top code p saved s1 c1 a' w.pass-low.result w.pass-low.new.status w.pass-low.new.operands c.match-runs-at.low c.match-runs-at.status c.match-runs-at.operands
+    let a = c.first_target-first.result + c.loop-k.k in
+    let a' = c.first_target-first.result + (c.loop-k.k + 1) in
+    let runs = c.runs_at.ensures in
+    elim c.match-runs_at.branch [
+      | in-Some-runs_at w ↦
+          let i = w.in-Some-runs_at.instruction in
+          stepping_is o l joined rank top code p saved s1 c1 a' w.pass-low.result w.pass-low.new.status w.pass-low.new.operands c.match-runs_at.low c.match-runs_at.status c.match-runs_at.operands
           w.low-is w.status-is w.operands-is
           (stepping_word o l joined rank top code p saved s1 c1 a a' c.loop-k.low i c.loop-k.status c.loop-k.operands w.pass-low.result w.pass-low.new.status w.pass-low.new.operands
-          (omega arith) c.requires.inside ((runs i).0 w.in-Some-runs-at.is)
-          (λ j h. let x = (runs j).1 h in let y = w.in-Some-runs-at.is in let z : j ≡ i = cc in z)
-          (subst (λ n. Went o joined rank top n p c.loop-k.low i saved c.loop-k.status c.loop-k.operands w.pass-low.result w.pass-low.new.status w.pass-low.new.operands) c.word-count-n.ensures w.pass-low.ensures)
+          (omega arith) c.requires.inside ((runs i).0 w.in-Some-runs_at.is)
+          (λ j h. let x = (runs j).1 h in let y = w.in-Some-runs_at.is in let z : j ≡ i = cc in z)
+          (subst (λ n. Went o joined rank top n p c.loop-k.low i saved c.loop-k.status c.loop-k.operands w.pass-low.result w.pass-low.new.status w.pass-low.new.operands) c.word_count-n.ensures w.pass-low.ensures)
           c.loop-k.invariant)
-      | in-default-runs-at w ↦
-          stepping_is o l joined rank top code p saved s1 c1 a' c.loop-k.low c.loop-k.status c.loop-k.operands c.match-runs-at.low c.match-runs-at.status c.match-runs-at.operands
+      | in_default-runs_at w ↦
+          stepping_is o l joined rank top code p saved s1 c1 a' c.loop-k.low c.loop-k.status c.loop-k.operands c.match-runs_at.low c.match-runs_at.status c.match-runs_at.operands
           w.low-is w.status-is w.operands-is
           (stepping_skip o l joined rank top code p saved s1 c1 a a' c.loop-k.low c.loop-k.status c.loop-k.operands (omega arith)
-          (λ j h. w.in-default-runs-at.not-Some j ((runs j).1 h)) c.loop-k.invariant)
+          (λ j h. w.in_default-runs_at.not-Some j ((runs j).1 h)) c.loop-k.invariant)
     ]
 
 pub returns : goal.returns
@@ -97,16 +97,16 @@ returns g c =
     let s2 = c.loop-k.status in
     let c2 = c.loop-k.operands in
     let saved = c.in-Some.saved in
-    let first = c.first-target-first.result in
+    let first = c.first_target-first.result in
     let due = tidy-due (get_or s0 p 0) (c.requires.growing.tidy p c.requires.inside) c.requires.due in
     let ls : p < length s0 = omega arith in
     let taken = taken-eased o rank top n p s0 c0 ls due c.requires.inside in
-    let all : c.target-count-k-end.result ≤ c.loop-k.k = c.loop-k-test.false in
+    let all : c.target_count-k-end.result ≤ c.loop-k.k = c.loop-k-test.false in
     record {
       growing = stepping_end o l joined rank top code p saved s1 c0 (first + c.loop-k.k) c.loop-k.low s2 c2
           (λ k i runs.
-          let within = runs_within o code p saved c.instruction-at-here.result first c.target-count-k-end.result
-          (c.instruction-at-here.ensures ∙ cond-true _ _ _ (lt-ltb _ _ c.requires.inside)) c.first-target-first.ensures c.target-count-k-end.ensures k i runs in
+          let within = runs_within o code p saved c.instruction_at-here.result first c.target_count-k-end.result
+          (c.instruction_at-here.ensures ∙ cond-true _ _ _ (lt-ltb _ _ c.requires.inside)) c.first_target-first.ensures c.target_count-k-end.ensures k i runs in
           omega (arith, within.1))
           c.loop-k.invariant;
       kept = (eased_then o rank top n s0 c0 s1 c0 s2 c2 taken c.loop-k.invariant.eased).kept;

@@ -12,6 +12,6 @@ at_most_1 false = omega arith
 
 pub loop-p-preserved : goal.loop-p-preserved
 loop-p-preserved c =
-    let b = c.has-entry.result in
-    let entry = as_number b ∙ ap {B = ℕ} (λ t. cond t 1 0) c.has-entry.ensures in
+    let b = c.has_entry.result in
+    let entry = as_number b ∙ ap {B = ℕ} (λ t. cond t 1 0) c.has_entry.ensures in
     (rw add-one (omega (arith, entry)), omega (arith, at_most_1 b))

@@ -6,12 +6,12 @@ use Rattle.growth.proofs.Easing.{kept_same, kept_then, eased_flow}
 use Rattle.growth.proofs.Growing.{growing_start, growing_end}
 use Rattle.growth.proofs.table.fill.Goals as goal
 
-pub start-entry-requires : goal.start-entry-requires
-start-entry-requires g c = entry_fits (lone g.row.K.mir) (length c.args.operands.now) (omega arith) c.well-formed.1.0.1
+pub start_entry-requires : goal.start_entry-requires
+start_entry-requires g c = entry_fits (lone g.row.K.mir) (length c.args.operands.now) (omega arith) c.well_formed.1.0.1
 
 pub send-requires : goal.send-requires
 send-requires g c = (
-  entry_fits (lone g.row.K.mir) (length c.args.operands.now) (omega arith) c.well-formed.1.0.1,
+  entry_fits (lone g.row.K.mir) (length c.args.operands.now) (omega arith) c.well_formed.1.0.1,
   record { words = omega arith; bytes = omega (arith, c.clear.auto.status); cells = omega arith },
 )
 
@@ -19,9 +19,9 @@ pub loop-p-init : goal.loop-p-init
 loop-p-init g c =
     let o = g.K.Operand.operations in
     let code = c.args.code.now in (
-      growing_start o g.K.Spreading.joined code g.K.Spreading.rank g.K.Spreading.top c.start-entry.result
+      growing_start o g.K.Spreading.joined code g.K.Spreading.rank g.K.Spreading.top c.start_entry.result
           c.clear.new.status c.args.operands.now c.send.new.status c.send.new.operands c.requires.full
-          (λ k h. c.clear.ensures.zero k (omega (arith, c.word-count-n.ensures))) c.start-entry.ensures c.send.ensures,
+          (λ k h. c.clear.ensures.zero k (omega (arith, c.word_count-n.ensures))) c.start_entry.ensures c.send.ensures,
       kept_same o (words_in code) c.send.new.status c.send.new.operands,
       λ k h. absurd (omega arith),
     )
@@ -40,11 +40,11 @@ returns g c =
     let o = g.K.Operand.operations in
     let code = c.args.code.now in
     let n = words_in code in
-    let words = c.word-count-n.ensures in
+    let words = c.word_count-n.ensures in
     growing_end o g.K.Spreading.joined code c.args.status.now c.args.operands.now c.clear.new.status c.loop-p.status c.loop-p.operands
     (λ k h. c.lowest-p.ensures.quiet k (omega arith))
     (λ k h. c.clear.ensures.rest k (omega arith))
     (kept_then o n c.clear.new.status c.args.operands.now c.send.new.status c.send.new.operands c.loop-p.status c.loop-p.operands
-    (eased_flow o g.K.Spreading.rank g.K.Spreading.top n g.K.Spreading.joined 0 c.start-entry.result c.clear.new.status c.args.operands.now c.send.new.status c.send.new.operands c.requires.full c.send.ensures).kept
+    (eased_flow o g.K.Spreading.rank g.K.Spreading.top n g.K.Spreading.joined 0 c.start_entry.result c.clear.new.status c.args.operands.now c.send.new.status c.send.new.operands c.requires.full c.send.ensures).kept
     c.loop-p.invariant.1)
     c.loop-p.invariant.0

@@ -6,14 +6,14 @@ use Rattle.image.proofs.entries.try_entries.Goals as goal
 pub loop-k-init : goal.loop-k-init
 loop-k-init c = tried_none _ c.requires.0
 
-pub try-entry-requires : goal.try-entry-requires
-try-entry-requires c = omega (arith, grant_end_le_length _ c.requires.0)
+pub try_entry-requires : goal.try_entry-requires
+try_entry-requires c = omega (arith, grant_end_le_length _ c.requires.0)
 
-pub returns-in-err-key : goal.returns-in-err-key
-returns-in-err-key c =
+pub returns-in_err-key : goal.returns-in_err-key
+returns-in_err-key c =
     let p = err_from_is_err_and c.from-residual.result c.from-residual.ensures.1 in
-    rw (p.1, p.2) (first-refused _ c.loop-k.k c.loop-k.least-key _ _ (omega arith) (omega arith) c.loop-k.invariant c.in-err-key.ensures)
+    rw (p.1, p.2) (first-refused _ c.loop-k.k c.loop-k.least_key _ _ (omega arith) (omega arith) c.loop-k.invariant c.in_err-key.ensures)
 
 pub loop-k-preserved : goal.loop-k-preserved
 loop-k-preserved c =
-    tried_more _ c.loop-k.k c.loop-k.least-key _ _ (omega arith) c.loop-k.invariant c.in-ok-key.ensures
+    tried_more _ c.loop-k.k c.loop-k.least_key _ _ (omega arith) c.loop-k.invariant c.in_ok-key.ensures

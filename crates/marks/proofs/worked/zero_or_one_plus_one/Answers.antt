@@ -3,5 +3,5 @@ use Rattle.marks.proofs.worked.zero_or_one_plus_one.Goals as goal
 
 pub returns : goal.returns
 returns c =
-    sum_of_either c.constant-zero.result c.only-one-one.result c.join.result.0 c.add.result.0
-    c.constant-zero.ensures c.only-one-one.ensures c.join.ensures.members c.add.ensures.sums
+    sum_of_either c.constant-zero.result c.only_one-one.result c.join.result.0 c.add.result.0
+    c.constant-zero.ensures c.only_one-one.ensures c.join.ensures.members c.add.ensures.sums

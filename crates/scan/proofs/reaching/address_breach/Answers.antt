@@ -7,13 +7,13 @@ use Rattle.scan.proofs.reaching.address_breach.Goals as goal
 use Rattle.scan.proofs.reaching.address_breach.Goals.{then-reaches, else-reaches}
 
 pub overflow-add-end : goal.overflow-add-end
-overflow-add-end g c = omega (arith, span_short c.instruction-at-here.result c.args.p)
+overflow-add-end g c = omega (arith, span_short c.instruction_at-here.result c.args.p)
 
 pub loop-a-init : goal.loop-a-init
 loop-a-init g c grants reads =
     let o = g.K.Operand.operations in
-    shown_none o c.args.code.now grants (allows o c.args.held) c.args.p c.instruction-at-here.result
-    c.first-target-first.result c.here-breach-found.result c.first-target-first.ensures c.here-breach-found.ensures
+    shown_none o c.args.code.now grants (allows o c.args.held) c.args.p c.instruction_at-here.result
+    c.first_target-first.result c.here_breach-found.result c.first_target-first.ensures c.here_breach-found.ensures
 
 pub loop-a-preserved : goal.loop-a-preserved
 loop-a-preserved g c grants reads =
@@ -21,13 +21,13 @@ loop-a-preserved g c grants reads =
     let s = allows o c.args.held in
     let code = c.args.code.now in
     let p = c.args.p in
-    let here = c.instruction-at-here.result in
+    let here = c.instruction_at-here.result in
     let a = c.loop-a.a in
     let before = c.loop-a.invariant grants reads in
     elim c.if-reaches.branch [
       | then-reaches w ↦
-          shown_more o code grants s p here a c.loop-a.found w.word-breach.result c.if-reaches.found (cc)
-          (c.reaches.ensures.0 w.if-reaches.true) before (w.word-breach.ensures grants reads)
+          shown_more o code grants s p here a c.loop-a.found w.word_breach.result c.if-reaches.found (cc)
+          (c.reaches.ensures.0 w.if-reaches.true) before (w.word_breach.ensures grants reads)
       | else-reaches w ↦
           shown_past o code grants s p here a c.loop-a.found c.if-reaches.found w.found-is
           (λ r. both_ways c.reaches.result w.if-reaches.false (c.reaches.ensures.1 r)) before
@@ -38,7 +38,7 @@ returns g c grants reads =
     let o = g.K.Operand.operations in
     let code = c.args.code.now in
     let p = c.args.p in
-    let here = c.instruction-at-here.result in
+    let here = c.instruction_at-here.result in
     let end : first_target here p + target_count here ≤ c.loop-a.a = omega arith in
     shown_all o code grants (allows o c.args.held) p here c.loop-a.a c.loop-a.found
-    (meant_inside code p here c.requires c.instruction-at-here.ensures) end (c.loop-a.invariant grants reads)
+    (meant_inside code p here c.requires c.instruction_at-here.ensures) end (c.loop-a.invariant grants reads)

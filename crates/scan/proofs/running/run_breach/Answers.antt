@@ -11,7 +11,7 @@ returns-then-exceeds g c grants reads =
     let s = allows o c.args.entry in
     run-withheld o g.K.Operand.lawful grants s c.args.n c.args.p c.args.instruction
     (λ w. both_ways c.strays.result c.if-strays.false (c.strays.ensures.1 w))
-    (λ w. both_ways c.uses-unready.result c.if-uses-unready.false (c.uses-unready.ensures.1 w))
+    (λ w. both_ways c.uses_unready.result c.if-uses_unready.false (c.uses_unready.ensures.1 w))
     (subst (λ z. Exceeds grants z s) c.cover.ensures ((c.exceeds.ensures grants reads).0 c.if-exceeds.true))
 
 pub returns-else-exceeds : goal.returns-else-exceeds
@@ -20,5 +20,5 @@ returns-else-exceeds g c grants reads =
     let s = allows o c.args.entry in
     run-clear o g.K.Operand.lawful grants s c.args.n c.args.p c.args.instruction
     (λ w. both_ways c.strays.result c.if-strays.false (c.strays.ensures.1 w))
-    (λ w. both_ways c.uses-unready.result c.if-uses-unready.false (c.uses-unready.ensures.1 w))
+    (λ w. both_ways c.uses_unready.result c.if-uses_unready.false (c.uses_unready.ensures.1 w))
     (λ w. both_ways c.exceeds.result c.if-exceeds.false ((c.exceeds.ensures grants reads).1 (subst (λ z. Exceeds grants z s) (sym c.cover.ensures) w)))

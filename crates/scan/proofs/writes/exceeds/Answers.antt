@@ -12,7 +12,7 @@ returns-in-Some g c grants reads =
     let s = allows o c.args.entry in
     let side = c.in-Some.side in
     let bits = c.in-Some.bits in
-    let x = c.register-operand.result in
-    let same = subst (λ r. Same (o.has x) (s (number_of r))) c.selector.ensures c.register-operand.ensures in
+    let x = c.register_operand.result in
+    let same = subst (λ r. Same (o.has x) (s (number_of r))) c.selector.ensures c.register_operand.ensures in
     let d = exceeds_by o g.K.Operand.lawful grants s c.args.masks.now side bits x c.withholds.result reads same c.withholds.ensures in
     subst (λ (z : Cover). Decides c.withholds.result (Exceeds grants z s)) (sym c.in-Some.is) d

@@ -14,7 +14,7 @@ members-init c = gathered_none (number c.args.xs) (λ a. Only (one (rotate c.arg
 pub members-preserved : goal.members-preserved
 members-preserved c =
     let Part : ℕ → Bytes = λ a. Only (one (rotate c.args.by) a) in
-    let top = c.take-highest-b in
+    let top = c.take_highest-b in
     let b = c.rotated.result in
     let m = number c.only.result in
     let Gives : ℕ → Type 0 = λ z. Same (In m) (Only z) in
@@ -25,7 +25,7 @@ members-preserved c =
 pub returns : goal.returns
 returns c =
     gathered_all (number c.args.xs) (λ a. Only (one (rotate c.args.by) a)) (number c.members.rest) (number c.members.out)
-    (c.is-empty.ensures.0 c.members-test.false) c.members.invariant
+    (c.is_empty.ensures.0 c.members-test.false) c.members.invariant
 
 abbrev turns : ℕ → ℕ → Bool
 turns n k = eqb (rotated n (rotated ((8 - n) % 8) k)) k
@@ -34,11 +34,11 @@ turns n k = eqb (rotated n (rotated ((8 - n) % 8) k)) k
 rotated-rotated : (n k : ℕ) → n < 8 → k < 256 → rotated n (rotated ((8 - n) % 8) k) ≡ k
 rotated-rotated n k hn hk = (Decides-eqb _ _).0 (every-at 256 (turns n) (every-at 8 (λ m. every 256 (turns m)) refl n hn) k hk)
 
-pub returns-then-is-all : goal.returns-then-is-all
-returns-then-is-all c =
+pub returns-then-is_all : goal.returns-then-is_all
+returns-then-is_all c =
     let xs = number c.args.xs in
     let n = c.args.by % 8 in
-    let every_byte = same-from-number xs (2 ^ 256 - 1) Every (c.is-all.ensures.0 c.if-is-all.true) in_all in (
+    let every_byte = same-from-number xs (2 ^ 256 - 1) Every (c.is_all.ensures.0 c.if-is_all.true) in_all in (
       (λ k h.
           let a = rotated ((8 - n) % 8) k in
           (a, (every_byte.1 a (omega arith), sym (rotated-rotated n k (omega arith) (every_byte.0 k h))))),

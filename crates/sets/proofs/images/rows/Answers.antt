@@ -17,13 +17,13 @@ members-init c =
 pub members-preserved : goal.members-preserved
 members-preserved c =
     let Part : ℕ → Bytes = λ a. Image (two (op_of c.args.op) a) (In (number c.args.ys)) in
-    let top = c.take-highest-a in
+    let top = c.take_highest-a in
     gathered_more (number c.args.xs) Part (number c.members.rest) (number c.members.out) top.result.0 (number top.result.1)
     (number c.row.result) (number c.union-out.result) top.ensures.0 top.ensures.1 c.union-out.ensures c.members.invariant c.row.ensures
 
 -- what is left has a member
-pub take-highest-a-requires : goal.take-highest-a-requires
-take-highest-a-requires c =
+pub take_highest-a-requires : goal.take_highest-a-requires
+take_highest-a-requires c =
     let none : number c.members.rest ≡ 0 → ⊥ = λ e. not_from_Decides _ c.settled.ensures c.members-test.true (inl e) in
     omega arith
 

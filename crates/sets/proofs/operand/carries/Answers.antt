@@ -12,7 +12,7 @@ use Rattle.sets.proofs.operand.carries.Goals as goal
 
 pub made-requires : goal.made-requires
 made-requires c =
-    let first : 0 < number c.only.result = omega (arith, c.only.ensures, pow_pos c.carry-of-least.result) in
+    let first : 0 < number c.only.result = omega (arith, c.only.ensures, pow_pos c.carry_of-least.result) in
     omega (arith, c.union.ensures, or_pos (number c.only.result) (number c.only-2.result) first)
 
 pub returns : goal.returns
@@ -23,12 +23,12 @@ returns c =
     let m = number y.bits in
     let la = c.lowest.result in
     let lb = c.lowest-2.result in
-    let ta = c.take-highest-a in
-    let tb = c.take-highest-b in
+    let ta = c.take_highest-a in
+    let tb = c.take_highest-b in
     let least = two carry la lb in
     let most = two carry ta.result.0 tb.result.0 in
-    let first : number c.only.result ≡ 2 ^ least = c.only.ensures ∙ ap (λ z. 2 ^ z) c.carry-of-least.ensures in
-    let second : number c.only-2.result ≡ 2 ^ most = c.only-2.ensures ∙ ap (λ z. 2 ^ z) c.carry-of.ensures in
+    let first : number c.only.result ≡ 2 ^ least = c.only.ensures ∙ ap (λ z. 2 ^ z) c.carry_of-least.ensures in
+    let second : number c.only-2.result ≡ 2 ^ most = c.only-2.ensures ∙ ap (λ z. 2 ^ z) c.carry_of.ensures in
     let is : number c.made.result.bits ≡ bit_or (2 ^ least) (2 ^ most) =
     c.made.ensures ∙ c.union.ensures ∙ ap (λ z. bit_or z (number c.only-2.result)) first ∙ ap (bit_or (2 ^ least)) second in
     same-from-number (number c.made.result.bits) (bit_or (2 ^ least) (2 ^ most)) (exact_twos carry (set_has x) (set_has y)) is

@@ -11,10 +11,10 @@ pub returns-then-j-lt7 : goal.returns-then-j-lt7
 returns-then-j-lt7 c =
     let xs = c.args.xs in
     let j = c.args.j in
-    let lo = c.mixed-word.result in
-    let hi = c.mixed-word-then-j-lt7.result in
+    let lo = c.mixed_word.result in
+    let hi = c.mixed_word-then-j-lt7.result in
     image_mixed c.args.mix j (wide lo hi) (number xs) (omega arith) (omega arith) (omega arith)
-    (mixed_wide c.args.mix j xs.low xs.high lo hi c.if-j-lt7.true (omega arith) (omega arith) c.mixed-word.ensures c.mixed-word-then-j-lt7.ensures)
+    (mixed_wide c.args.mix j xs.low xs.high lo hi c.if-j-lt7.true (omega arith) (omega arith) c.mixed_word.ensures c.mixed_word-then-j-lt7.ensures)
 
 -- bit 7, in a mix m that is known
 seven : (mix m : Mix) (j x n : ℕ) → mix ≡ m → j ≡ 7 → Mixed m 7 256 x n → Mixed mix j 256 x n

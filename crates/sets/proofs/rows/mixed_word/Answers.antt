@@ -11,8 +11,8 @@ returns-in-And c =
     let j = c.args.j in
     let s = c.block-by.result in
     let Goal : Mix → ℕ → Type 0 = λ m p. Mixed m j 128 w (bit_and (bit_or w (w / 2 ^ s)) p) in
-    let At : Mix → Type 0 = λ m. Goal m c.clear-places-places.result in
-    subst At (sym c.in-And.is) (subst (Goal And) (sym c.clear-places-places.ensures) (λ k h. bit_folded w j s k c.block-by.ensures.0 c.requires h))
+    let At : Mix → Type 0 = λ m. Goal m c.clear_places-places.result in
+    subst At (sym c.in-And.is) (subst (Goal And) (sym c.clear_places-places.ensures) (λ k h. bit_folded w j s k c.block-by.ensures.0 c.requires h))
 
 pub returns-in-Xor : goal.returns-in-Xor
 returns-in-Xor c =
@@ -20,5 +20,5 @@ returns-in-Xor c =
     let j = c.args.j in
     let s = c.block-by.result in
     let Goal : Mix → ℕ → Type 0 = λ m p. Mixed m j 128 w (bit_or (bit_and (w / 2 ^ s) p) (bit_and w p * 2 ^ s % 2 ^ 128)) in
-    let At : Mix → Type 0 = λ m. Goal m c.clear-places-places.result in
-    subst At (sym c.in-Xor.is) (subst (Goal Xor) (sym c.clear-places-places.ensures) (λ k h. bit_exchanged w j s k c.block-by.ensures.0 c.requires h))
+    let At : Mix → Type 0 = λ m. Goal m c.clear_places-places.result in
+    subst At (sym c.in-Xor.is) (subst (Goal Xor) (sym c.clear_places-places.ensures) (λ k h. bit_exchanged w j s k c.block-by.ensures.0 c.requires h))

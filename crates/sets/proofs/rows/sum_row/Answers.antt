@@ -8,10 +8,10 @@ pub returns-then-a-lt128 : goal.returns-then-a-lt128
 returns-then-a-lt128 c =
     let a = c.args.a in
     let ys = c.args.ys in
-    let lo = c.moved-up-low.result in
-    let hi = c.moved-up-high.result in
-    let l = c.moved-up-low.ensures in
-    let h = c.moved-up-high.ensures in
+    let lo = c.moved_up-low.result in
+    let hi = c.moved_up-high.result in
+    let l = c.moved_up-low.ensures in
+    let h = c.moved_up-high.ensures in
     let by : a % 128 ≡ a = omega arith in
     image-sum a (wide lo hi) (number ys) (omega arith) (omega arith) (omega arith)
     (λ k lt. bit_turned (a % 128) ys.low ys.high lo hi (omega arith) (omega arith) (omega arith) (l.above, l.under) (h.above, h.under) k lt
@@ -21,10 +21,10 @@ pub returns-else-a-lt128 : goal.returns-else-a-lt128
 returns-else-a-lt128 c =
     let a = c.args.a in
     let ys = c.args.ys in
-    let lo = c.moved-up-low.result in
-    let hi = c.moved-up-high.result in
-    let l = c.moved-up-low.ensures in
-    let h = c.moved-up-high.ensures in
+    let lo = c.moved_up-low.result in
+    let hi = c.moved_up-high.result in
+    let l = c.moved_up-low.ensures in
+    let h = c.moved_up-high.ensures in
     image-sum a (wide hi lo) (number ys) (omega arith) (omega arith) (omega arith)
     (λ k lt.
     let e : ((k + (256 - a % 128)) % 256 + 128) % 256 ≡ (k + (256 - a)) % 256 = omega arith in

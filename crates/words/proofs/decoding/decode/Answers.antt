@@ -9,12 +9,12 @@ use Rattle.words.proofs.decoding.decode.Goals as goal
 pub returns : goal.returns
 returns c =
     let w = c.args.word in
-    let same : c.instruction-at.result ≡ meaning w =
-    simp (and_mask (w / 256) 5, and_mask (w / 32) 3, and_mask w 5) at c.instruction-at.ensures in
+    let same : c.instruction_at.result ≡ meaning w =
+    simp (and_mask (w / 256) 5, and_mask (w / 32) 3, and_mask w 5) at c.instruction_at.ensures in
     let small : w < 65536 = omega arith in
     record {
       meaning = same;
       permitted = ap is_some same ∙ meaning-permitted w;
-      alone = meaning-alone w c.instruction-at.result small (sym same);
+      alone = meaning-alone w c.instruction_at.result small (sym same);
       class = subst (λ r. IfSome r (λ i. class_number (class_of i) ≡ opcode w)) (sym same) (meaning_class w small);
     }

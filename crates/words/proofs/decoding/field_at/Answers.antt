@@ -5,4 +5,4 @@ use Rattle.words.proofs.decoding.field_at.Goals as goal
 
 pub returns : goal.returns
 unfolding field_of
-returns c = field_same _ (field_of c.args.number c.args.code) c.side-at.ensures refl c.length-at.ensures
+returns c = field_same _ (field_of c.args.number c.args.code) c.side_at.ensures refl c.length_at.ensures

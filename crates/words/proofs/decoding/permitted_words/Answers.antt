@@ -7,7 +7,7 @@ pub loop-word-init : goal.loop-word-init
 loop-word-init c = counted_none
 
 pub loop-word-preserved : goal.loop-word-preserved
-loop-word-preserved c = counted_more _ _ _ c.loop-word.invariant c.count-after-count.ensures
+loop-word-preserved c = counted_more _ _ _ c.loop-word.invariant c.count_after-count.ensures
 
 pub returns : goal.returns
 returns c =

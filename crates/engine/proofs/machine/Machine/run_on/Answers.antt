@@ -9,7 +9,7 @@ loop-finished-init g c = run_none c.args.code.now c.args.cycles _
 pub loop-finished-preserved : goal.loop-finished-preserved
 loop-finished-preserved g c =
     run_more c.args.code.now c.args.cycles c.loop-finished.finished _ _ _ c.loop-finished-test.true c.loop-finished.invariant
-    (sym c.in-default.is ∙ c.cycle.ensures.answer) c.cycle.ensures.state
+    (sym c.in_default.is ∙ c.cycle.ensures.answer) c.cycle.ensures.state
 
 pub returns-in-Err : goal.returns-in-Err
 returns-in-Err g c =

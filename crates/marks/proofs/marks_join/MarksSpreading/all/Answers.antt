@@ -4,5 +4,5 @@ use Rattle.marks.proofs.marks_join.MarksSpreading.all.Goals as goal
 
 pub returns : goal.returns
 returns c =
-    let e = c.all-ends-low.ensures in
+    let e = c.all_ends-low.ensures in
     same_ends _ _ _ _ _ e.low e.high (lowest_same 8 (omega arith))

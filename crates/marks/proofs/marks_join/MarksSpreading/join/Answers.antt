@@ -3,18 +3,18 @@ use Rattle.marks.specs.declared.mark.Marks.{Marks}
 use Rattle.marks.specs.Joins.{joined_within, joined_same, first-inside, second-inside, joined_adds, joined_rests, joined_rises}
 use Rattle.marks.proofs.marks_join.MarksSpreading.join.Goals as goal
 
-pub invariant-of-joined : goal.invariant-of-joined
-invariant-of-joined c =
-    let e = c.joined-ends-low.ensures in
+pub invariant_of-joined : goal.invariant_of-joined
+invariant_of-joined c =
+    let e = c.joined_ends-low.ensures in
     (joined_within c.args.self c.args.other _ _ e.low e.high, (omega arith, tt))
 
 pub returns : goal.returns
 returns c =
     let x = c.args.self in
     let y = c.args.other in
-    let e = c.joined-ends-low.ensures in
-    let l = c.joined-ends-low.result.0 in
-    let h = c.joined-ends-low.result.1 in
+    let e = c.joined_ends-low.ensures in
+    let l = c.joined_ends-low.result.0 in
+    let h = c.joined_ends-low.result.1 in
     let small : h < 256 = omega arith in
     let j : Marks = record { low = l; high = h; within = joined_within x y l h e.low e.high; small = small } in
     let s = joined_same x y l h e.low e.high in

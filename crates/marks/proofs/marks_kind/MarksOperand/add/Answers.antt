@@ -3,20 +3,20 @@ use Rattle.operands.specs.Bytes.Two.{sum, carry}
 use Rattle.marks.proofs.Closed.{two_within, two-same}
 use Rattle.marks.proofs.marks_kind.MarksOperand.add.Goals as goal
 
-pub invariant-of-result : goal.invariant-of-result
-invariant-of-result c =
-    let e = c.sum-ends-low.ensures in
+pub invariant_of-result : goal.invariant_of-result
+invariant_of-result c =
+    let e = c.sum_ends-low.ensures in
     (two_within sum c.args.self c.args.other _ _ (omega arith) e.low e.high, (omega arith, tt))
 
-pub invariant-of-result-2 : goal.invariant-of-result-2
-invariant-of-result-2 c =
-    let e = c.carry-ends-least.ensures in
+pub invariant_of-result-2 : goal.invariant_of-result-2
+invariant_of-result-2 c =
+    let e = c.carry_ends-least.ensures in
     (two_within carry c.args.self c.args.other _ _ (omega arith) e.low e.high, (omega arith, tt))
 
 pub returns : goal.returns
 returns c =
-    let s = c.sum-ends-low.ensures in
-    let e = c.carry-ends-least.ensures in
+    let s = c.sum_ends-low.ensures in
+    let e = c.carry_ends-least.ensures in
     record {
       sums = two-same sum c.args.self c.args.other _ _ s.low s.high;
       carries = two-same carry c.args.self c.args.other _ _ e.low e.high;

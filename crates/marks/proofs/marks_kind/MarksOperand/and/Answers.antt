@@ -3,10 +3,10 @@ use Rattle.operands.specs.Bytes.Two.{and}
 use Rattle.marks.proofs.Closed.{two_within, two-same}
 use Rattle.marks.proofs.marks_kind.MarksOperand.and.Goals as goal
 
-pub invariant-of-result : goal.invariant-of-result
-invariant-of-result c =
-    let e = c.and-ends-low.ensures in
+pub invariant_of-result : goal.invariant_of-result
+invariant_of-result c =
+    let e = c.and_ends-low.ensures in
     (two_within and c.args.self c.args.other _ _ (omega arith) e.low e.high, (omega arith, tt))
 
 pub returns : goal.returns
-returns c = let e = c.and-ends-low.ensures in two-same and c.args.self c.args.other _ _ e.low e.high
+returns c = let e = c.and_ends-low.ensures in two-same and c.args.self c.args.other _ _ e.low e.high

@@ -3,10 +3,10 @@ use Rattle.operands.specs.Bytes.One.{keep}
 use Rattle.marks.proofs.Closed.{one_within, one_same}
 use Rattle.marks.proofs.marks_kind.MarksOperand.keep_lowest.Goals as goal
 
-pub invariant-of-result : goal.invariant-of-result
-invariant-of-result c =
-    let e = c.kept-ends-low.ensures in
+pub invariant_of-result : goal.invariant_of-result
+invariant_of-result c =
+    let e = c.kept_ends-low.ensures in
     (one_within (keep c.args.bits) c.args.self _ _ e.low e.high, (omega arith, tt))
 
 pub returns : goal.returns
-returns c = let e = c.kept-ends-low.ensures in one_same (keep c.args.bits) c.args.self _ _ e.low e.high
+returns c = let e = c.kept_ends-low.ensures in one_same (keep c.args.bits) c.args.self _ _ e.low e.high

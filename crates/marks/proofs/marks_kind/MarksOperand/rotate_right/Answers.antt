@@ -3,10 +3,10 @@ use Rattle.operands.specs.Bytes.One.{rotate}
 use Rattle.marks.proofs.Closed.{one_within, one_same}
 use Rattle.marks.proofs.marks_kind.MarksOperand.rotate_right.Goals as goal
 
-pub invariant-of-result : goal.invariant-of-result
-invariant-of-result c =
-    let e = c.rotated-ends-low.ensures in
+pub invariant_of-result : goal.invariant_of-result
+invariant_of-result c =
+    let e = c.rotated_ends-low.ensures in
     (one_within (rotate c.args.by) c.args.self _ _ e.low e.high, (omega arith, tt))
 
 pub returns : goal.returns
-returns c = let e = c.rotated-ends-low.ensures in one_same (rotate c.args.by) c.args.self _ _ e.low e.high
+returns c = let e = c.rotated_ends-low.ensures in one_same (rotate c.args.by) c.args.self _ _ e.low e.high

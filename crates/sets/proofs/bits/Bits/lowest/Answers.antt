@@ -9,20 +9,20 @@ use Rattle.sets.proofs.bits.Bits.lowest.Goals as goal
 pub returns-then-self-gt0 : goal.returns-then-self-gt0
 returns-then-self-gt0 c =
     let low = c.args.self.low in
-    let r = c.lowest-bit.ensures in
+    let r = c.lowest_bit.ensures in
     let same : (k : ℕ) → _ → bit (number c.args.self) k ≡ bit low k = bit_low 128 c.args.self.high low (omega arith) in
     record {
-      found = same c.lowest-bit.result r.small ∙ r.found;
+      found = same c.lowest_bit.result r.small ∙ r.found;
       least = λ k h. ⊎_elim (λ lt. r.least k (sym (same k lt) ∙ h)) (λ ge. omega (arith, r.small)) (cases_lt k 128);
     }
 
 pub returns-else-self-gt0 : goal.returns-else-self-gt0
 returns-else-self-gt0 c =
     let x = c.args.self in
-    let r = c.lowest-bit-else-self-gt0.ensures in
+    let r = c.lowest_bit-else-self-gt0.ensures in
     let none : x.low ≡ 0 = omega arith in
     record {
-      found = bit_high 128 x.high x.low (omega arith) c.lowest-bit-else-self-gt0.result ∙ r.found;
+      found = bit_high 128 x.high x.low (omega arith) c.lowest_bit-else-self-gt0.result ∙ r.found;
       least = λ k h. ⊎_elim
           (λ lt. absurd (in_zero k (ap (λ n. bit n k) (sym none) ∙ sym (bit_low 128 x.high x.low (omega arith) k lt) ∙ h)))
           (λ ge.
