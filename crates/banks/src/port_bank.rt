@@ -1,6 +1,5 @@
 // A bank whose ports each have a mask of their own.
 ghost use Rattle.std.specs.Prelude.{◌≡◌, length};
-ghost use Rattle.std.proofs.Common.{rules, arith};
 
 use crate::bank::Bank;
 use crate::port::Port;
@@ -23,7 +22,7 @@ impl PortBank {
 impl Bank for PortBank {
     ghost ports = { λ b. b.ports };
 
-    ghost full = { first_of (Prim.search rules, Prim.grind (arith, Self.row.coded.inj)) };
+    ghost full = { λ b. b.full };
 
     fn read(&self, port: u8) -> u8 {
         self.ports[port as usize].byte

@@ -6,7 +6,7 @@ ghost use Rattle.operands.specs.Exact.{exact_twos};
 ghost use Rattle.sets.specs.Numbers.{number};
 ghost use Rattle.sets.specs.Steps.{Image, step_of, op_of};
 ghost use Rattle.sets.specs.Sets.{set_has, set_rank, set_joined, set_operations, set_lawful, OneOrTwo};
-ghost use Rattle.std.proofs.Common.{rules, arith};
+ghost use Rattle.std.proofs.lemmas.Nat.{ones-le};
 
 use crate::bits::Bits;
 use crate::images::{Op, Step, combined, image};
@@ -94,7 +94,7 @@ impl Spreading for Set {
 
     ghost joined = { set_joined };
 
-    ghost bounded = { first_of (Prim.search rules, Prim.grind (arith, Self.row.coded.inj)) };
+    ghost bounded = { λ x. ones-le 256 (number x.bits) x.fits };
 
     fn largest_rank() -> usize {
         Self::MAX_RANK

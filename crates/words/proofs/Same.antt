@@ -11,6 +11,7 @@ use Rattle.instructions.specs.declared.instruction.Destination.TheVariants as de
 use Rattle.instructions.specs.declared.instruction.Destination.{Destination}
 use Rattle.instructions.specs.declared.instruction.Operation.{Operation}
 use Rattle.instructions.specs.declared.instruction.Instruction.{Instruction}
+use Rattle.instructions.specs.declared.instruction.Instruction.TheVariants.{Alu, Xec, Nzt, Xmit, Jmp}
 use Rattle.words.specs.Fields.{field_of}
 use Rattle.words.specs.Rebuilding.{side_number}
 use Rattle.instructions.specs.contracts.instruction.Source.{as_values as source_parts}
@@ -65,4 +66,8 @@ pub source_decides : (x y : Source) (r : Bool) → (r ≡ (source_eq.ghosts).eq 
 source_decides x y r h = grind (arith, source_known, destination_known)
 
 pub instruction_decides : (x y : Instruction) (r : Bool) → (r ≡ (instruction_eq.ghosts).eq x y) → Decides r (x ≡ y)
-instruction_decides x y r h = grind (arith, source_known, destination_known)
+instruction_decides (Alu o s d) y r h = grind (arith, source_known, destination_known)
+instruction_decides (Xec s j) y r h = grind (arith, source_known, destination_known)
+instruction_decides (Nzt s j) y r h = grind (arith, source_known, destination_known)
+instruction_decides (Xmit j d) y r h = grind (arith, source_known, destination_known)
+instruction_decides (Jmp a) y r h = grind (arith, source_known, destination_known)

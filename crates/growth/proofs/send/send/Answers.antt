@@ -33,8 +33,8 @@ returns-else-risen g c =
     c.args.q c.args.new c.args.operands.now c.args.status.now c.loop-r.operands
     _ _ c.loop-r.r c.loop-r.risen (cc) (cc) all c.if-risen.false c.loop-r.invariant
 
-pub offset-bounds-operands-q-in-loop-r : goal.offset-bounds-operands-q-in-loop-r
-offset-bounds-operands-q-in-loop-r g c =
+pub offset_bounds-operands-q-in-loop-r : goal.offset_bounds-operands-q-in-loop-r
+offset_bounds-operands-q-in-loop-r g c =
     let n = length c.args.operands.now in
     let i = 16 * c.args.q + c.loop-r.r in
     let inside : i ≤ n = omega arith in

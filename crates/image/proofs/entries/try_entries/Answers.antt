@@ -11,7 +11,7 @@ try_entry-requires c = omega (arith, grant_end_le_length _ c.requires.0)
 
 pub returns-in_err-key : goal.returns-in_err-key
 returns-in_err-key c =
-    let p = err_from_is_err_and c.from-residual.result c.from-residual.ensures.1 in
+    let p = err_from_is_err_and c.from_residual.result c.from_residual.ensures.1 in
     rw (p.1, p.2) (first-refused _ c.loop-k.k c.loop-k.least_key _ _ (omega arith) (omega arith) c.loop-k.invariant c.in_err-key.ensures)
 
 pub loop-k-preserved : goal.loop-k-preserved

@@ -6,8 +6,8 @@ use Rattle.scan.proofs.Shown.{meant_inside, span_short, shown_none, shown_more, 
 use Rattle.scan.proofs.reaching.address_breach.Goals as goal
 use Rattle.scan.proofs.reaching.address_breach.Goals.{then-reaches, else-reaches}
 
-pub overflow-add-end : goal.overflow-add-end
-overflow-add-end g c = omega (arith, span_short c.instruction_at-here.result c.args.p)
+pub overflow_add-end : goal.overflow_add-end
+overflow_add-end g c = omega (arith, span_short c.instruction_at-here.result c.args.p)
 
 pub loop-a-init : goal.loop-a-init
 loop-a-init g c grants reads =

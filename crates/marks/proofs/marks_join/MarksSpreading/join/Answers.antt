@@ -6,7 +6,7 @@ use Rattle.marks.proofs.marks_join.MarksSpreading.join.Goals as goal
 pub invariant_of-joined : goal.invariant_of-joined
 invariant_of-joined c =
     let e = c.joined_ends-low.ensures in
-    (joined_within c.args.self c.args.other _ _ e.low e.high, (omega arith, tt))
+    record { within = joined_within c.args.self c.args.other _ _ e.low e.high; small = omega arith }
 
 pub returns : goal.returns
 returns c =

@@ -6,12 +6,12 @@ use Rattle.marks.proofs.marks_kind.MarksOperand.add.Goals as goal
 pub invariant_of-result : goal.invariant_of-result
 invariant_of-result c =
     let e = c.sum_ends-low.ensures in
-    (two_within sum c.args.self c.args.other _ _ (omega arith) e.low e.high, (omega arith, tt))
+    record { within = two_within sum c.args.self c.args.other _ _ (omega arith) e.low e.high; small = omega arith }
 
 pub invariant_of-result-2 : goal.invariant_of-result-2
 invariant_of-result-2 c =
     let e = c.carry_ends-least.ensures in
-    (two_within carry c.args.self c.args.other _ _ (omega arith) e.low e.high, (omega arith, tt))
+    record { within = two_within carry c.args.self c.args.other _ _ (omega arith) e.low e.high; small = omega arith }
 
 pub returns : goal.returns
 returns c =

@@ -6,7 +6,7 @@ use Rattle.marks.proofs.marks_kind.MarksOperand.keep_lowest.Goals as goal
 pub invariant_of-result : goal.invariant_of-result
 invariant_of-result c =
     let e = c.kept_ends-low.ensures in
-    (one_within (keep c.args.bits) c.args.self _ _ e.low e.high, (omega arith, tt))
+    record { within = one_within (keep c.args.bits) c.args.self _ _ e.low e.high; small = omega arith }
 
 pub returns : goal.returns
 returns c = let e = c.kept_ends-low.ensures in one_same (keep c.args.bits) c.args.self _ _ e.low e.high

@@ -6,7 +6,7 @@ use Rattle.marks.proofs.marks_kind.MarksOperand.rotate_right.Goals as goal
 pub invariant_of-result : goal.invariant_of-result
 invariant_of-result c =
     let e = c.rotated_ends-low.ensures in
-    (one_within (rotate c.args.by) c.args.self _ _ e.low e.high, (omega arith, tt))
+    record { within = one_within (rotate c.args.by) c.args.self _ _ e.low e.high; small = omega arith }
 
 pub returns : goal.returns
 returns c = let e = c.rotated_ends-low.ensures in one_same (rotate c.args.by) c.args.self _ _ e.low e.high

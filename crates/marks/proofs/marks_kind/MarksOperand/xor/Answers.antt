@@ -6,7 +6,7 @@ use Rattle.marks.proofs.marks_kind.MarksOperand.xor.Goals as goal
 pub invariant_of-result : goal.invariant_of-result
 invariant_of-result c =
     let e = c.xor_ends-low.ensures in
-    (two_within xor c.args.self c.args.other _ _ (omega arith) e.low e.high, (omega arith, tt))
+    record { within = two_within xor c.args.self c.args.other _ _ (omega arith) e.low e.high; small = omega arith }
 
 pub returns : goal.returns
 returns c = let e = c.xor_ends-low.ensures in two-same xor c.args.self c.args.other _ _ e.low e.high

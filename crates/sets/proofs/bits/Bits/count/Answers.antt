@@ -3,8 +3,8 @@ use lib.Count.{ones_cat}
 use Rattle.std.proofs.lemmas.Nat.{ones-le}
 use Rattle.sets.proofs.bits.Bits.count.Goals as goal
 
-pub overflow-add-result : goal.overflow-add-result
-overflow-add-result c = omega (arith, ones-le 128 c.args.self.low (omega arith), ones-le 128 c.args.self.high (omega arith))
+pub overflow_add-result : goal.overflow_add-result
+overflow_add-result c = omega (arith, ones-le 128 c.args.self.low (omega arith), ones-le 128 c.args.self.high (omega arith))
 
 pub returns : goal.returns
 returns c = omega (arith, ones_cat 128 c.args.self.high c.args.self.low (omega arith))
