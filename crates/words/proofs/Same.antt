@@ -1,7 +1,7 @@
 -- A derived `==` answers whether its two values are equal. Assumes nothing.
 use Rattle.std.proofs.Common.{◌≡◌, ℕ, ◌+◌, ◌%◌, ◌<◌, ◌≤◌, Bool, true, false, cond, Decides, refl, ap, subst, arith}
 use native.Mathlib.Bridge.{le_prop}
-use Rattle.std.proofs.lemmas.Bool.Decides.{nat_tests}
+use Rattle.std.proofs.lemmas.Bool.Decides.{nat_tests, Decides-at, Decides-like, Decides-and}
 use Rattle.instructions.specs.declared.field.Field.{Field}
 use Rattle.instructions.specs.declared.field.Side.{Side}
 use Rattle.instructions.specs.declared.register.Register.{Register}
@@ -65,9 +65,39 @@ destination_decides x y r h = grind (arith, source_known, destination_known)
 pub source_decides : (x y : Source) (r : Bool) → (r ≡ (source_eq.ghosts).eq x y) → Decides r (x ≡ y)
 source_decides x y r h = grind (arith, source_known, destination_known)
 
+operation_decides : (x y : Operation) → Decides ((operation_eq.ghosts).eq x y) (x ≡ y)
+operation_decides x y = grind arith
+
+alu_decides : (o u : Operation) (s t : Source) (d e : Destination) → Decides ((instruction_eq.ghosts).eq (Alu o s d) (Alu u t e)) (Alu o s d ≡ Alu u t e)
+alu_decides o u s t d e =
+    Decides-like _
+    (λ (w : (o ≡ u) × ((s ≡ t) × (d ≡ e))). let a = w.0 in let b = w.1.0 in let c = w.1.1 in cc)
+    (λ w. (cc, (cc, cc)))
+    (Decides-and _ _ (operation_decides o u) (Decides-and _ _ (source_decides s t _ refl) (destination_decides d e _ refl)))
+
 pub instruction_decides : (x y : Instruction) (r : Bool) → (r ≡ (instruction_eq.ghosts).eq x y) → Decides r (x ≡ y)
-instruction_decides (Alu o s d) y r h = grind (arith, source_known, destination_known)
-instruction_decides (Xec s j) y r h = grind (arith, source_known, destination_known)
-instruction_decides (Nzt s j) y r h = grind (arith, source_known, destination_known)
-instruction_decides (Xmit j d) y r h = grind (arith, source_known, destination_known)
-instruction_decides (Jmp a) y r h = grind (arith, source_known, destination_known)
+instruction_decides (Alu o s d) (Alu u t e) r h = Decides-at r _ h (alu_decides o u s t d e)
+instruction_decides (Alu o s d) (Xec t k) r h = grind (arith, source_known, destination_known)
+instruction_decides (Alu o s d) (Nzt t k) r h = grind (arith, source_known, destination_known)
+instruction_decides (Alu o s d) (Xmit k e) r h = grind (arith, source_known, destination_known)
+instruction_decides (Alu o s d) (Jmp b) r h = grind (arith, source_known, destination_known)
+instruction_decides (Xec s j) (Alu u t e) r h = grind (arith, source_known, destination_known)
+instruction_decides (Xec s j) (Xec t k) r h = grind (arith, source_known, destination_known)
+instruction_decides (Xec s j) (Nzt t k) r h = grind (arith, source_known, destination_known)
+instruction_decides (Xec s j) (Xmit k e) r h = grind (arith, source_known, destination_known)
+instruction_decides (Xec s j) (Jmp b) r h = grind (arith, source_known, destination_known)
+instruction_decides (Nzt s j) (Alu u t e) r h = grind (arith, source_known, destination_known)
+instruction_decides (Nzt s j) (Xec t k) r h = grind (arith, source_known, destination_known)
+instruction_decides (Nzt s j) (Nzt t k) r h = grind (arith, source_known, destination_known)
+instruction_decides (Nzt s j) (Xmit k e) r h = grind (arith, source_known, destination_known)
+instruction_decides (Nzt s j) (Jmp b) r h = grind (arith, source_known, destination_known)
+instruction_decides (Xmit j d) (Alu u t e) r h = grind (arith, source_known, destination_known)
+instruction_decides (Xmit j d) (Xec t k) r h = grind (arith, source_known, destination_known)
+instruction_decides (Xmit j d) (Nzt t k) r h = grind (arith, source_known, destination_known)
+instruction_decides (Xmit j d) (Xmit k e) r h = grind (arith, source_known, destination_known)
+instruction_decides (Xmit j d) (Jmp b) r h = grind (arith, source_known, destination_known)
+instruction_decides (Jmp a) (Alu u t e) r h = grind (arith, source_known, destination_known)
+instruction_decides (Jmp a) (Xec t k) r h = grind (arith, source_known, destination_known)
+instruction_decides (Jmp a) (Nzt t k) r h = grind (arith, source_known, destination_known)
+instruction_decides (Jmp a) (Xmit k e) r h = grind (arith, source_known, destination_known)
+instruction_decides (Jmp a) (Jmp b) r h = grind (arith, source_known, destination_known)
