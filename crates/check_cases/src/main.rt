@@ -2,7 +2,7 @@
 // A line of standard input is the name of a file beside the program.
 #![tactic(auto)]
 
-use check::{Acceptance, CheckFault, check};
+use checker::{Acceptance, CheckFault, check};
 use marks::Marks;
 use operands::{LeastJoin, Operand, Spreading};
 use sets::Set;

@@ -5,7 +5,7 @@
 mod options;
 
 use anyhow::anyhow;
-use check::{Acceptance, CheckFault, check};
+use checker::{Acceptance, CheckFault, check};
 use image::MOST_BYTES;
 use marks::Marks;
 use operands::{LeastJoin, Operand, Spreading};

@@ -16,7 +16,7 @@ use crate::player::{Finding, Player};
 use crate::subject::Subject;
 use crate::tally::Tally;
 use anyhow::anyhow;
-use check::check;
+use checker::check;
 use image::read;
 use marks::Marks;
 use operands::{LeastJoin, Operand, Spreading};

@@ -2,9 +2,9 @@ use Rattle.std.proofs.Common.{◌≡◌, ℕ, sym, ◌∙◌, subst, arith}
 use Rattle.words.specs.Code.{words_in}
 use Rattle.growth.specs.Memory.{entries_in}
 use Rattle.growth.specs.Growth.{Lacks}
-use Rattle.check.specs.Judging.{Answer, Judged}
-use Rattle.check.proofs.Verdicts.{judged_scanned, room_suffices}
-use Rattle.check.proofs.judging.judge.Goals as goal
+use Rattle.checker.specs.Judging.{Answer, Judged}
+use Rattle.checker.proofs.Verdicts.{judged_scanned, room_suffices}
+use Rattle.checker.proofs.judging.judge.Goals as goal
 
 pub returns : goal.returns
 returns g c =

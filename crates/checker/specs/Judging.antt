@@ -18,9 +18,9 @@ use Rattle.growth.specs.Growth.{Lacks}
 use Rattle.scan.specs.declared.verdict.Verdict.{Verdict}
 use Rattle.scan.specs.declared.verdict.Verdict.TheVariants as verdict
 use Rattle.scan.specs.Verdicts.{Lowest}
-use Rattle.check.specs.declared.fault.CheckFault.{CheckFault}
-use Rattle.check.specs.declared.fault.CheckFault.TheVariants as fault
-use Rattle.check.specs.declared.acceptance.Acceptance.{Acceptance}
+use Rattle.checker.specs.declared.fault.CheckFault.{CheckFault}
+use Rattle.checker.specs.declared.fault.CheckFault.TheVariants as fault
+use Rattle.checker.specs.declared.acceptance.Acceptance.{Acceptance}
 
 abbrev pub code_of : List ℕ → List ℕ
 code_of file = take (2 * word_count file) (drop (code_start file) file)

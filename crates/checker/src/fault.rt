@@ -1,7 +1,7 @@
 // Why an image is not accepted.
 ghost use Rattle.std.specs.Prelude.{◌≡◌, Some};
-ghost use Rattle.check.specs.Faults.{breach_number, reported, fault_text};
-ghost use Rattle.check.specs.Passing.{passed};
+ghost use Rattle.checker.specs.Faults.{breach_number, reported, fault_text};
+ghost use Rattle.checker.specs.Passing.{passed};
 
 use flow::Breach;
 use image::FileFault;

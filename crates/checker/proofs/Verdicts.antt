@@ -17,10 +17,10 @@ use Rattle.scan.specs.declared.verdict.Verdict.TheVariants as verdict
 use Rattle.scan.specs.Verdicts.{Clear, Lowest, Suffices, Scanned}
 use Rattle.scan.proofs.Larger.{lowest_dooms}
 use Rattle.calls.proofs.Promise.{promise_kept}
-use Rattle.check.specs.declared.fault.CheckFault.{CheckFault}
-use Rattle.check.specs.declared.fault.CheckFault.TheVariants as fault
-use Rattle.check.specs.declared.acceptance.Acceptance.{Acceptance}
-use Rattle.check.specs.Judging.{Answer, answer_to, LeastTable, Judged}
+use Rattle.checker.specs.declared.fault.CheckFault.{CheckFault}
+use Rattle.checker.specs.declared.fault.CheckFault.TheVariants as fault
+use Rattle.checker.specs.declared.acceptance.Acceptance.{Acceptance}
+use Rattle.checker.specs.Judging.{Answer, answer_to, LeastTable, Judged}
 
 -- a memory that lacks nothing has a word
 some_word : {K : Type 0} (n : ℕ) (status : List ℕ) (operands : List K) → (Lacks n status operands → ⊥) → 0 < n

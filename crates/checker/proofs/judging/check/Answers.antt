@@ -1,7 +1,7 @@
 use Rattle.std.proofs.Common.{◌≡◌, ℕ, List, ◌∙◌, subst}
-use Rattle.check.specs.Judging.{Judged, code_of, grants_of}
-use Rattle.check.proofs.Verdicts.{code-bytes, grant_bytes}
-use Rattle.check.proofs.judging.check.Goals as goal
+use Rattle.checker.specs.Judging.{Judged, code_of, grants_of}
+use Rattle.checker.proofs.Verdicts.{code-bytes, grant_bytes}
+use Rattle.checker.proofs.judging.check.Goals as goal
 
 pub returns : goal.returns
 returns g c =

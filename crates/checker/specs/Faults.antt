@@ -6,8 +6,8 @@ use Rattle.std.specs.Prelude.{ℕ, List, ◌++◌, codes, decimal}
 use Rattle.image.specs.Faults.{reported as file_reported, fault_text as file_text}
 use Rattle.flow.specs.declared.breach.Breach.{Breach}
 use Rattle.flow.specs.declared.breach.Breach.TheVariants.{NotPermitted, Outside, Chain, Unready, Withheld}
-use Rattle.check.specs.declared.fault.CheckFault.{CheckFault}
-use Rattle.check.specs.declared.fault.CheckFault.TheVariants as fault
+use Rattle.checker.specs.declared.fault.CheckFault.{CheckFault}
+use Rattle.checker.specs.declared.fault.CheckFault.TheVariants as fault
 
 abbrev pub breach_number : Breach → ℕ
 breach_number NotPermitted = 11

@@ -1,7 +1,7 @@
 -- A fault of the file as a fault of the check. Assumes nothing.
 use Rattle.image.specs.declared.fault.FileFault.{FileFault}
-use Rattle.check.specs.declared.fault.CheckFault.{CheckFault}
-use Rattle.check.specs.declared.fault.CheckFault.TheVariants as fault
+use Rattle.checker.specs.declared.fault.CheckFault.{CheckFault}
+use Rattle.checker.specs.declared.fault.CheckFault.TheVariants as fault
 
 abbrev pub passed : FileFault → CheckFault
 passed f = fault.File f

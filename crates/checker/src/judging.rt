@@ -1,6 +1,6 @@
 // The check.
 ghost use Rattle.std.specs.Prelude.{◌≡◌};
-ghost use Rattle.check.specs.Judging.{answer_to, Judged, Checked};
+ghost use Rattle.checker.specs.Judging.{answer_to, Judged, Checked};
 
 use crate::acceptance::Acceptance;
 use crate::fault::CheckFault;
