@@ -7,7 +7,7 @@
 --   written_at, driven_at k v ps   the bank after v was written to, or driven on, port k
 --   Merges k new old before after   what became of a bank: at port k the writable bits are those of new and the
 --                      others those of old; no mask and no other port changed
-use Rattle.std.specs.Prelude.{◌≡◌, ℕ, cond, List, map, length, ◌==◌, ◌≢◌, bit_and, bit_xor, slice_index_or, slice_set}
+use Rattle.std.specs.Prelude.{◌≡◌, ℕ, cond, List, map, ◌==◌, ◌≢◌, bit_and, bit_xor, slice_index_or, slice_set}
 use Rattle.bits.specs.Bits.{bit}
 use Rattle.banks.specs.declared.port.Port.{Port}
 

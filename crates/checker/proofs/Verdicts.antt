@@ -8,8 +8,7 @@ use Rattle.words.specs.Code.{words_in}
 use Rattle.operands.specs.Bytes.{Bytes}
 use Rattle.operands.specs.Operations.{Operations, Lawful}
 use Rattle.flow.specs.declared.breach.Breach.{Breach}
-use Rattle.flow.specs.Tables.{Table, table_of, Rules}
-use Rattle.flow.specs.Breaches.{Meets}
+use Rattle.flow.specs.Tables.{table_of}
 use Rattle.growth.specs.Memory.{entries_in}
 use Rattle.growth.specs.Growth.{JoinIsLeast, Lacks, Grown}
 use Rattle.scan.specs.declared.verdict.Verdict.{Verdict}
@@ -17,10 +16,9 @@ use Rattle.scan.specs.declared.verdict.Verdict.TheVariants as verdict
 use Rattle.scan.specs.Verdicts.{Clear, Lowest, Suffices, Scanned}
 use Rattle.scan.proofs.Larger.{lowest_dooms}
 use Rattle.calls.proofs.Promise.{promise_kept}
-use Rattle.checker.specs.declared.fault.CheckFault.{CheckFault}
 use Rattle.checker.specs.declared.fault.CheckFault.TheVariants as fault
 use Rattle.checker.specs.declared.acceptance.Acceptance.{Acceptance}
-use Rattle.checker.specs.Judging.{Answer, answer_to, LeastTable, Judged}
+use Rattle.checker.specs.Judging.{answer_to, LeastTable, Judged}
 
 -- a memory that lacks nothing has a word
 some_word : {K : Type 0} (n : ℕ) (status : List ℕ) (operands : List K) → (Lacks n status operands → ⊥) → 0 < n

@@ -1,8 +1,6 @@
 -- Operations on operands with equal members, and on bytes. Assumes nothing.
-use Rattle.std.proofs.Common.{◌≡◌, ℕ, sym, refl, ap, ◌∙◌}
-use Rattle.operands.specs.Bytes.{Bytes, Inside, Same, Only, One, Two, one, two}
+use Rattle.operands.specs.Bytes.{Bytes, Same, One}
 use Rattle.operands.specs.Operations.{Operations, Lawful}
-use Rattle.operands.specs.Exact.{exact_ones, exact_twos}
 
 pub same-ones : {K : Type 0} (o : Operations K) (laws : Lawful o) (f : One) (P Q R : Bytes) → Same P (o.ones f Q) → Same Q R → Same P (o.ones f R)
 same-ones o laws f P Q R p q =

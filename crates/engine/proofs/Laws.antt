@@ -1,10 +1,7 @@
 -- Every cycle keeps the laws. Assumes nothing.
-use Rattle.std.proofs.Common.{◌≡◌, ℕ, zero, suc, ◌+◌, ◌-◌, ◌*◌, ◌%◌, ◌^◌, ◌<◌, Bool, true, false, cond, ◌||◌, eqb, ltb, ◌⊎◌, List, [], ◌∷◌, length, get_or, set, Some, None, Ok, Err, Option, Result, sym, refl, ap, ◌∙◌, subst, inl, inr, arith, get_or-set_other, get_or-set_same}
-use Rattle.std.proofs.lemmas.Bool.Decides.{nat_tests}
-use Rattle.instructions.specs.declared.field.Field.{Field}
+use Rattle.std.proofs.Common.{◌≡◌, ℕ, zero, suc, ◌+◌, ◌-◌, ◌<◌, Bool, true, false, cond, eqb, ltb, ◌⊎◌, List, [], ◌∷◌, get_or, set, Some, None, Ok, Err, Option, Result, sym, refl, ap, ◌∙◌, subst, inl, inr, arith, get_or-set_other}
 use Rattle.instructions.specs.declared.field.Side.{Side}
 use Rattle.instructions.specs.declared.field.Side.TheVariants.{Left, Right}
-use Rattle.instructions.specs.declared.register.Register.{Register}
 use Rattle.instructions.specs.declared.register.Register.TheVariants.{R0, R10}
 use Rattle.instructions.specs.declared.instruction.Source.{Source}
 use Rattle.instructions.specs.declared.instruction.Destination.{Destination}
@@ -28,9 +25,9 @@ use Rattle.effects.specs.Addresses.{next_address}
 use Rattle.effects.specs.Usage.{source_side, whole_port}
 use Rattle.engine.specs.declared.fault.EngineFault.{EngineFault}
 use Rattle.engine.specs.States.{Core, State, register, ports_of, port_number, port_byte, stored, to, with_core, with_byte}
-use Rattle.engine.specs.Effects.{source_byte, latch_side, bus_byte, delivered, transmitted, transmitted_to, overflowed, computed, jumped, performed, served}
-use Rattle.engine.specs.Cycles.{executed, step_of, cycle_of}
-use Rattle.engine.specs.Laws.{KeepsAllButAddresses, OnePort, KeepsRegistersIf, Spares, KeepsOwn, KeepsOwnBits, is_add, adds, InstructionLaws, Runs, CycleLaws}
+use Rattle.engine.specs.Effects.{source_byte, latch_side, bus_byte, delivered, transmitted, transmitted_to, overflowed, jumped, performed, served}
+use Rattle.engine.specs.Cycles.{executed, cycle_of}
+use Rattle.engine.specs.Laws.{KeepsAllButAddresses, OnePort, KeepsRegistersIf, Spares, KeepsOwn, KeepsOwnBits, is_add, InstructionLaws, CycleLaws}
 
 -- a value set at a place is there, or the place is past the end and nothing changed
 set_there : {A : Type 0} (xs : List A) (k : ℕ) (v d : A) → (get_or (set xs k v) k d ≡ v) ⊎ (get_or (set xs k v) k d ≡ get_or xs k d)

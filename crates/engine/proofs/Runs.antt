@@ -1,5 +1,5 @@
 -- Runs, cycle by cycle. Assumes nothing.
-use Rattle.std.proofs.Common.{◌≡◌, ℕ, zero, suc, ◌+◌, ◌-◌, ◌<◌, false, List, Some, None, Ok, Err, Result, sym, refl, ap, ◌∙◌, arith}
+use Rattle.std.proofs.Common.{◌≡◌, ℕ, suc, ◌+◌, ◌-◌, ◌<◌, false, List, Some, None, Ok, Err, Result, sym, ap, ◌∙◌, arith}
 use Rattle.engine.specs.declared.fault.EngineFault.{EngineFault}
 use Rattle.engine.specs.States.{State}
 use Rattle.engine.specs.Cycles.{cycle_of}

@@ -5,8 +5,7 @@
 --   Spares i a b               what the instruction i leaves alone
 --   KeepsOwnBits i a b         a written field leaves the port's own bits outside the field, unless data came from the other bank
 --   CycleLaws                  all of them, of a cycle from a that answers r and leaves b
-use Rattle.std.specs.Prelude.{◌≡◌, ℕ, ◌<◌, Bool, true, false, List, Some, None, Ok, Err, Option, Result}
-use Rattle.instructions.specs.declared.field.Field.{Field}
+use Rattle.std.specs.Prelude.{◌≡◌, ℕ, ◌<◌, Bool, true, false, List, Some, None, Err, Option, Result}
 use Rattle.instructions.specs.declared.field.Side.{Side}
 use Rattle.instructions.specs.declared.register.Register.TheVariants.{R10}
 use Rattle.instructions.specs.declared.instruction.Destination.{Destination}

@@ -1,5 +1,5 @@
 -- A state that allows more has every way on, runs every word, and leaves a state that allows more. Assumes nothing.
-use Rattle.std.proofs.Common.{◌≡◌, ℕ, ◌<◌, Bool, true, false, cond, eqb, List, Some, None, Option, inl, inr, ⊎_elim, arith}
+use Rattle.std.proofs.Common.{ℕ, ◌<◌, Bool, true, false, cond, eqb, List, Some, None, Option, inl, inr, ⊎_elim, arith}
 use Rattle.instructions.specs.declared.field.Side.{Side}
 use Rattle.instructions.specs.declared.register.Register.{Register}
 use Rattle.instructions.specs.declared.instruction.Source.{Source}
@@ -19,7 +19,7 @@ use Rattle.effects.specs.Arithmetic.{result_bytes}
 use Rattle.effects.specs.Usage.{select_side, whole_port}
 use Rattle.flow.specs.States.{State, Fits, put, Nothing, unready_part, selected, stored_in, source_bytes, carried_in, delivered_in, transmitted_in, after}
 use Rattle.flow.proofs.Parts.{number_below_16}
-use Rattle.flow.specs.Ways.{Reaches, ReachesBy, instruction_at, Runs, Next}
+use Rattle.flow.specs.Ways.{ReachesBy, instruction_at, Runs, Next}
 
 number_below_18 : (r : Register) → number_of r < 18
 number_below_18 r = omega (arith, number_below_16 r)

@@ -1,16 +1,15 @@
 -- The parts of a state: registers and marks. Assumes nothing.
-use Rattle.std.proofs.Common.{◌≡◌, ℕ, ◌-◌, ◌<◌, ◌≤◌, Bool, true, false, cond, eqb, ltb, get_or, sym, refl, ap, ◌∙◌, subst, arith}
+use Rattle.std.proofs.Common.{◌≡◌, ℕ, ◌-◌, ◌<◌, ◌≤◌, Bool, true, false, cond, eqb, ltb, get_or, sym, subst, arith}
 use Rattle.std.proofs.lemmas.Bool.{lt-ltb, le-ltb}
 use Rattle.instructions.specs.declared.register.Register.{Register}
 use Rattle.instructions.specs.declared.register.Register.TheVariants.{R0, R1, R2, R3, R4, R5, R6, R7, R10, R11, R12, R13, R14, R15, R16, R17}
 use Rattle.instructions.specs.Registers.{number_of}
-use Rattle.operands.specs.Bytes.{Bytes, Inside, Same}
+use Rattle.operands.specs.Bytes.{Bytes, Same}
 use Rattle.operands.specs.Bytes.One.{rotate, keep}
 use Rattle.operands.specs.Operations.{Operations, Lawful}
 use Rattle.instructions.specs.declared.field.Field.{Field}
 use Rattle.effects.specs.Arithmetic.{field_bytes}
 use Rattle.effects.proofs.Bytes.{same-ones}
-use Rattle.flow.specs.States.{State}
 use Rattle.flow.specs.Tables.{marked, seen}
 use Rattle.flow.specs.Entries.{allows}
 use Rattle.flow.specs.declared.entry.Entry.{Entry}

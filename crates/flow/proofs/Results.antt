@@ -1,5 +1,5 @@
 -- What results and constants leave of an entry. Assumes nothing.
-use Rattle.std.proofs.Common.{◌≡◌, ℕ, Some, None, Option, sym, refl, subst, arith}
+use Rattle.std.proofs.Common.{◌≡◌, ℕ, Some, None, Option, sym, subst}
 use Rattle.instructions.specs.declared.field.Side.{Side}
 use Rattle.instructions.specs.declared.instruction.Source.{Source}
 use Rattle.instructions.specs.declared.instruction.Destination.{Destination}
@@ -9,7 +9,7 @@ use Rattle.operands.specs.Bytes.{Bytes, Same, Only}
 use Rattle.operands.specs.Bytes.Two.{carry as carry_of}
 use Rattle.operands.specs.Operations.{Operations, Lawful}
 use Rattle.effects.specs.Arithmetic.{result_bytes, Carried}
-use Rattle.flow.specs.States.{State, Fits, Alike, put, source_bytes, carried_in, carried_by, delivered_in, transmitted_in, computed_in}
+use Rattle.flow.specs.States.{State, Alike, put, source_bytes, carried_in, carried_by, delivered_in, transmitted_in, computed_in}
 use Rattle.flow.proofs.Storing.{same_trans}
 use Rattle.flow.proofs.Monotone.{fits_refl, fits_then, put-more, delivered-more, result_more}
 

@@ -1,18 +1,18 @@
 -- What a store leaves of an entry. Assumes nothing.
-use Rattle.std.proofs.Common.{◌≡◌, ℕ, ◌<◌, ◌≤◌, Bool, true, false, cond, not, ◌&&◌, eqb, ltb, ◌≢◌, ◌⊎◌, List, length, get_or, set, replicate, Some, None, Option, sym, refl, ap, ◌∙◌, subst, inl, inr, ⊎_elim, arith, get_or-set_other, get_or-set_same}
+use Rattle.std.proofs.Common.{◌≡◌, ℕ, ◌<◌, ◌≤◌, Bool, true, false, not, ◌&&◌, eqb, ltb, ◌≢◌, List, length, get_or, set, replicate, Some, None, Option, sym, refl, ap, ◌∙◌, subst, ⊎_elim, arith, get_or-set_other, get_or-set_same}
 use lib.ListN.{length-replicate, get_or-replicate}
 use Rattle.std.proofs.lemmas.Bool.{cases_lt, cases_eq, eq-eqb, ne_eqb, lt-ltb}
 use Rattle.instructions.specs.declared.field.Side.{Side}
 use Rattle.instructions.specs.declared.field.Side.TheVariants.{Left, Right}
-use Rattle.operands.specs.Bytes.{Bytes, Inside, Same, Every}
+use Rattle.operands.specs.Bytes.{Bytes, Same, Every}
 use Rattle.operands.specs.Bytes.One.{keep}
 use Rattle.operands.specs.Operations.{Operations}
 use Rattle.effects.specs.Usage.{is_side}
-use Rattle.flow.specs.States.{State, Fits, Alike, put, unready_part, Nothing, selected, start_register, start}
-use Rattle.flow.specs.Tables.{marked, seen}
+use Rattle.flow.specs.States.{State, Alike, put, unready_part, Nothing, selected, start_register, start}
+use Rattle.flow.specs.Tables.{marked}
 use Rattle.flow.specs.Entries.{allows}
 use Rattle.flow.specs.declared.entry.Entry.{Entry}
-use Rattle.flow.proofs.Parts.{same_then, same_else, seen-register, seen_mark}
+use Rattle.flow.proofs.Parts.{same_then, same_else, seen-register}
 
 pub same_trans : (P Q R : Bytes) → Same P Q → Same Q R → Same P R
 same_trans P Q R f g = (λ b m. g.0 b (f.0 b m), λ b m. f.1 b (g.1 b m))

@@ -5,7 +5,7 @@
 --   order k            the order in which breaches are told
 --   FirstAt, ClearAt   k occurs and none that is told before it; none occurs
 --   Meets o code grants t   the table keeps the rules and has no breach
-use Rattle.std.specs.Prelude.{◌≡◌, ℕ, ◌<◌, ◌≤◌, Bool, true, false, cond, ◌⊎◌, List, Some, None, Option, ◌≢◌, bit_and}
+use Rattle.std.specs.Prelude.{◌≡◌, ℕ, ◌<◌, ◌≤◌, true, cond, ◌⊎◌, List, Some, None, Option, ◌≢◌, bit_and}
 use Rattle.instructions.specs.declared.field.Field.{Field}
 use Rattle.instructions.specs.declared.field.Side.{Side}
 use Rattle.instructions.specs.declared.instruction.Destination.{Destination}

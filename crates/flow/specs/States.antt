@@ -7,7 +7,7 @@
 --   source_bytes o x s   what a source may give: a register's bytes rotated; of a bank any byte may be read
 --   after o i s      the state after the instruction i, by the operations of the kind
 --   start o          the state in which a machine starts: any bytes, in R10 the lowest bit of any byte, both banks unready
-use Rattle.std.specs.Prelude.{◌≡◌, ℕ, ◌<◌, Bool, true, false, cond, Some, None, Option, ◌==◌, nat_lt}
+use Rattle.std.specs.Prelude.{ℕ, ◌<◌, cond, Some, None, Option, ◌==◌, nat_lt}
 use Rattle.instructions.specs.declared.field.Side.{Side}
 use Rattle.instructions.specs.declared.field.Side.TheVariants.{Left, Right}
 use Rattle.instructions.specs.declared.register.Register.{Register}

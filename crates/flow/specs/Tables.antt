@@ -6,7 +6,7 @@
 --   FlowsAt o code t p each next address inside the image has an entry that allows the state after the word
 --   Rules o code t     what a table owes to the code
 --   Under o n t u      below n, the table t has no entry that u lacks, and allows nothing that u does not
-use Rattle.std.specs.Prelude.{◌≡◌, ℕ, ◌+◌, ◌*◌, ◌/◌, ◌%◌, ◌<◌, Bool, true, false, cond, List, ◌==◌, nat_lt, slice_index, slice_index_or}
+use Rattle.std.specs.Prelude.{◌≡◌, ℕ, ◌+◌, ◌*◌, ◌/◌, ◌%◌, ◌<◌, Bool, true, cond, List, ◌==◌, nat_lt, slice_index, slice_index_or}
 use Rattle.instructions.specs.declared.instruction.Instruction.{Instruction}
 use Rattle.words.specs.Code.{words_in}
 use Rattle.operands.specs.Bytes.{Bytes}

@@ -1,6 +1,6 @@
 -- Sending an entry to a word, register by register. Assumes nothing.
 use Rattle.std.proofs.Common.{◌≡◌, ℕ, ◌+◌, ◌-◌, ◌*◌, ◌/◌, ◌%◌, ◌<◌, ◌≤◌, Bool, true, false, cond, not, ◌&&◌, ◌||◌, eqb, ◌≢◌, ◌⊎◌, List, length, get_or, set, sym, refl, ap, ◌∙◌, subst, inl, inr, ⊎_elim, add-one, arith, get_or-set_other, get_or-set_same}
-use Rattle.std.proofs.lemmas.Bool.{cases_lt, cases_Bool, both_ways, or_parts, or_cases, eqb-true, eqb-false, ne_eqb, eq-eqb, cond_both, or_left, or_right, and_parts, and_cases, not-true, not-false, not_from_true}
+use Rattle.std.proofs.lemmas.Bool.{cases_lt, cases_Bool, both_ways, or_parts, or_cases, eqb-true, eqb-false, eq-eqb, cond_both, or_left, or_right, and_parts, and_cases, not-true, not-false, not_from_true}
 use Rattle.operands.specs.Bytes.{Bytes}
 use Rattle.operands.specs.Operations.{Operations}
 use Rattle.flow.specs.declared.entry.Entry.{Entry}

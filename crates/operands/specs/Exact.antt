@@ -1,6 +1,6 @@
 -- Kinds whose answers have exactly the bytes that members give. Assumes nothing.
 use Rattle.std.specs.Prelude.{◌≡◌, ℕ, ◌<◌, refl}
-use Rattle.operands.specs.Bytes.{Bytes, Inside, One, Two, one, two}
+use Rattle.operands.specs.Bytes.{Bytes, One, Two, one, two}
 use Rattle.operands.specs.Operations.{Operations, Lawful}
 
 abbrev pub exact_ones : One → Bytes → Bytes

@@ -1,5 +1,5 @@
 -- Bytes as a kind of operands. Assumes nothing.
-use Rattle.std.specs.Prelude.{◌≡◌, ℕ, ◌<◌, refl}
+use Rattle.std.specs.Prelude.{refl}
 use Rattle.std.proofs.Common.{arith}
 use Rattle.operands.specs.Bytes.{Bytes, Only}
 use Rattle.operands.specs.Operations.{Operations, Lawful}

@@ -1,6 +1,6 @@
 -- A place and the place whose bit j differs. Assumes nothing.
-use Rattle.std.proofs.Common.{◌≡◌, ℕ, suc, ◌+◌, ◌-◌, ◌*◌, ◌/◌, ◌%◌, ◌^◌, ◌<◌, min, Bool, eqb, sym, refl, ap, ◌∙◌, pow-suc, arith}
-use lib.Bits.{bit_and, bit_xor, and_high, and_comm, and_shr, and_step, xor_add_and, xor_shr, xor_assoc, xor_self, xor_zero_l, xor_block}
+use Rattle.std.proofs.Common.{◌≡◌, ℕ, suc, ◌+◌, ◌-◌, ◌*◌, ◌%◌, ◌^◌, ◌<◌, Bool, eqb, sym, refl, ap, ◌∙◌, pow-suc, arith}
+use lib.Bits.{bit_and, bit_xor, and_high, and_comm, xor_add_and, xor_assoc, xor_self, xor_zero_l, xor_block}
 use Rattle.std.proofs.lemmas.Nat.{xor_lt, pow_below}
 use Rattle.std.proofs.lemmas.Bool.Decides.{Decides-eqb}
 use Rattle.operands.proofs.Rotations.{every, every-at}

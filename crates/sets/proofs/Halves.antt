@@ -1,8 +1,6 @@
 -- Bits of a number that is made of two words. Assumes nothing.
-use Rattle.std.proofs.Common.{◌≡◌, ℕ, suc, ◌+◌, ◌-◌, ◌*◌, ◌/◌, ◌%◌, ◌^◌, ◌<◌, ◌≤◌, sym, ap, ◌∙◌, arith, pow_mono}
-use native.Mathlib.Nat.{pow-succ', div-div-eq-div-mul}
-use lib.Pow.{mod-mod-pow}
-use Rattle.std.proofs.lemmas.Nat.{field_of, mod_low, shr_high, shr-shr, pow_pos, div_below}
+use Rattle.std.proofs.Common.{◌≡◌, ℕ, ◌+◌, ◌*◌, ◌/◌, ◌^◌, ◌<◌, sym, ap, ◌∙◌, arith}
+use Rattle.std.proofs.lemmas.Nat.{mod_low, shr_high, shr-shr, pow_pos, div_below}
 use Rattle.bits.specs.Bits.{bit}
 use Rattle.bits.proofs.Bits.{bit_mod}
 

@@ -2,7 +2,7 @@
 --   begun            a new machine with registers of 0, beside two banks whose ports hold 0 and are writable throughout
 --   told r n         what is told of a run: the cycles finished, which are never more than a run can have, and in the lowest eight
 --                    bits register n
-use Rattle.std.specs.Prelude.{List, ℕ, ◌+◌, ◌*◌, ◌%◌, min, get_or, replicate}
+use Rattle.std.specs.Prelude.{ℕ, ◌+◌, ◌*◌, ◌%◌, min, get_or, replicate}
 use Rattle.banks.specs.Ports.{Ports, stored}
 use Rattle.engine.specs.States.{State}
 use Rattle.engine.specs.Cycles.{fresh}

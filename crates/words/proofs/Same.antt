@@ -1,10 +1,9 @@
 -- A derived `==` answers whether its two values are equal. Assumes nothing.
-use Rattle.std.proofs.Common.{◌≡◌, ℕ, ◌+◌, ◌%◌, ◌<◌, ◌≤◌, Bool, true, false, cond, Decides, refl, ap, subst, arith}
+use Rattle.std.proofs.Common.{◌≡◌, ℕ, ◌+◌, ◌%◌, ◌<◌, ◌≤◌, Bool, Decides, refl, ap, subst, arith}
 use native.Mathlib.Bridge.{le_prop}
 use Rattle.std.proofs.lemmas.Bool.Decides.{nat_tests, Decides-at, Decides-like, Decides-and}
 use Rattle.instructions.specs.declared.field.Field.{Field}
 use Rattle.instructions.specs.declared.field.Side.{Side}
-use Rattle.instructions.specs.declared.register.Register.{Register}
 use Rattle.instructions.specs.declared.instruction.Source.{Source}
 use Rattle.instructions.specs.declared.instruction.Source.TheVariants as source
 use Rattle.instructions.specs.declared.instruction.Destination.TheVariants as destination
@@ -16,8 +15,6 @@ use Rattle.words.specs.Fields.{field_of}
 use Rattle.words.specs.Rebuilding.{side_number}
 use Rattle.instructions.specs.contracts.instruction.Source.{as_values as source_parts}
 use Rattle.instructions.specs.contracts.instruction.Destination.{as_values as destination_parts}
-use Rattle.instructions.specs.contracts.field.FieldPartialEq.TheImpl as field_eq
-use Rattle.instructions.specs.contracts.register.RegisterPartialEq.TheImpl as register_eq
 use Rattle.instructions.specs.contracts.instruction.SourcePartialEq.TheImpl as source_eq
 use Rattle.instructions.specs.contracts.instruction.DestinationPartialEq.TheImpl as destination_eq
 use Rattle.instructions.specs.contracts.instruction.OperationPartialEq.TheImpl as operation_eq

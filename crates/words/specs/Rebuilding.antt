@@ -1,7 +1,7 @@
 -- The word of an instruction. Assumes nothing.
 --   Rebuilt i r    r is a word exactly if that word means the instruction i, so it is none exactly if no word does
 --   parts_word i    the word that the parts of an instruction make, whether or not it means the instruction
-use Rattle.std.specs.Prelude.{◌≡◌, ℕ, ◌+◌, ◌*◌, ◌%◌, ◌<◌, cond, Some, None, Option}
+use Rattle.std.specs.Prelude.{◌≡◌, ℕ, ◌+◌, ◌*◌, ◌%◌, ◌<◌, Some, Option}
 use Rattle.instructions.specs.declared.field.Field.{Field}
 use Rattle.instructions.specs.declared.field.Side.{Side}
 use Rattle.instructions.specs.declared.field.Side.TheVariants.{Left, Right}

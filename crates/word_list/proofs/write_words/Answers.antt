@@ -1,4 +1,4 @@
-use Rattle.std.proofs.Common.{◌≡◌, ◌+◌, Bool, cond, ap, ◌∙◌}
+use Rattle.std.proofs.Common.{◌+◌, Bool, cond, ap, ◌∙◌}
 use Rattle.words.proofs.Counting.{counted_none, counted_more}
 use Rattle.word_list.proofs.write_words.Goals as goal
 

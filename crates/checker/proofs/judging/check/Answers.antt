@@ -1,5 +1,5 @@
-use Rattle.std.proofs.Common.{◌≡◌, ℕ, List, ◌∙◌, subst}
-use Rattle.checker.specs.Judging.{Judged, code_of, grants_of}
+use Rattle.std.proofs.Common.{ℕ, List, ◌∙◌, subst}
+use Rattle.checker.specs.Judging.{Judged, code_of}
 use Rattle.checker.proofs.Verdicts.{code-bytes, grant_bytes}
 use Rattle.checker.proofs.judging.check.Goals as goal
 

@@ -1,4 +1,4 @@
-use Rattle.std.proofs.Common.{◌≡◌, ℕ, ◌<◌, not, ◌&&◌, length, set, Option, sym, ap, ◌∙◌, subst, arith}
+use Rattle.std.proofs.Common.{◌<◌, not, ◌&&◌, length, set, Option, ap, ◌∙◌, arith}
 use Rattle.instructions.specs.declared.field.Side.{Side}
 use Rattle.instructions.specs.declared.field.Side.TheVariants.{Left, Right}
 use Rattle.instructions.specs.Registers.{number_of}

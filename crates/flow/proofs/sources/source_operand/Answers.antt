@@ -1,6 +1,6 @@
 use Rattle.std.proofs.Common.{sym, subst}
 use Rattle.instructions.specs.declared.instruction.Source.{Source}
-use Rattle.operands.specs.Bytes.{Same, Every}
+use Rattle.operands.specs.Bytes.{Same}
 use Rattle.operands.specs.Bytes.One.{rotate}
 use Rattle.effects.proofs.Bytes.{same-ones}
 use Rattle.flow.specs.States.{source_bytes}

@@ -1,4 +1,4 @@
-use Rattle.std.proofs.Common.{◌≡◌, ℕ, refl, arith}
+use Rattle.std.proofs.Common.{◌≡◌, ℕ, arith}
 use Rattle.std.proofs.lemmas.Bool.{both_ways}
 use Rattle.flow.specs.Entries.{allows}
 use Rattle.flow.proofs.Jumps.{no_jump}

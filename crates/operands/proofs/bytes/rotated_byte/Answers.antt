@@ -1,4 +1,4 @@
-use Rattle.std.proofs.Common.{◌≡◌, ◌%◌, ◌<◌, ◌∙◌, arith}
+use Rattle.std.proofs.Common.{◌≡◌, ◌%◌, ◌∙◌, arith}
 use Rattle.operands.proofs.Rotations.{rotated_shifts}
 use Rattle.operands.proofs.bytes.rotated_byte.Goals as goal
 

@@ -1,4 +1,4 @@
-use Rattle.std.proofs.Common.{◌≡◌, ◌<◌, Bool, cond, Some, None, sym, ap, ◌∙◌, arith}
+use Rattle.std.proofs.Common.{◌<◌, Bool, cond, Some, None, sym, ap, ◌∙◌, arith}
 use Rattle.words.proofs.encoding.rebuild.Goals as goal
 
 pub returns-in-Some : goal.returns-in-Some

@@ -1,5 +1,4 @@
-use Rattle.std.proofs.Common.{◌≡◌, sym, ◌∙◌, arith}
-use Rattle.engine.specs.Cycles.{state_of}
+use Rattle.std.proofs.Common.{sym, ◌∙◌, arith}
 use Rattle.engine.proofs.Runs.{run_none, run_more, run-refused, run_all}
 use Rattle.engine.proofs.machine.Machine.run_on.Goals as goal
 
