@@ -38,8 +38,10 @@ impl Bench {
 fn sum_of_255_has_no_carry(rt: HostRuntime) {
     let mut bench = Bench::holding(100, 155, 0);
     assert_eq!(rt; bench.run(0x2102), Ok(()));
-    assert_eq!(rt; bench.machine.registers[2], 255);
-    assert_eq!(rt; bench.machine.registers[8], 0);
+    let registers = bench.machine.registers;
+    let (sum, carry) = (registers[2], registers[8]);
+    assert_eq!(rt; sum, 255);
+    assert_eq!(rt; carry, 0);
 }
 
 // MOVE R1 to three bits of the left bank: L is the length of the field there and no rotation.
@@ -58,7 +60,8 @@ fn xec_keeps_program_counter_and_overflow(rt: HostRuntime) {
     assert_eq!(rt; bench.run(0x81ff), Ok(()));
     assert_eq!(rt; bench.machine.ar, 257);
     assert_eq!(rt; bench.machine.pc, 300);
-    assert_eq!(rt; bench.machine.registers[8], 0);
+    let overflow = bench.machine.registers[8];
+    assert_eq!(rt; overflow, 0);
 }
 
 #[test]
@@ -70,8 +73,10 @@ fn reset_keeps_registers_and_selects(rt: HostRuntime) {
         .cycle(&[], &mut bench.left, &mut bench.right, true, true);
     assert_eq!(rt; answer, Ok(()));
     assert_eq!(rt; bench.machine.pc, 0);
-    assert_eq!(rt; bench.machine.registers[0], 7);
-    assert_eq!(rt; bench.machine.registers[1], 9);
+    let registers = bench.machine.registers;
+    let (r0, r1) = (registers[0], registers[1]);
+    assert_eq!(rt; r0, 7);
+    assert_eq!(rt; r1, 9);
     assert_eq!(rt; bench.machine.left_ready, true);
 }
 
@@ -87,7 +92,8 @@ fn halt_runs_no_word(rt: HostRuntime) {
 #[test]
 fn new_machine_keeps_one_bit_of_r10(rt: HostRuntime) {
     let machine = Machine::new([255; 16]);
-    assert_eq!(rt; machine.registers[8], 1);
+    let r10 = machine.registers[8];
+    assert_eq!(rt; r10, 1);
     assert_eq!(rt; machine.left_ready, false);
 }
 
@@ -117,7 +123,8 @@ fn transmit_to_r12_writes_the_left_port(rt: HostRuntime) {
     let mut bench = Bench::holding(0, 0, 0);
     assert_eq!(rt; bench.run(0xcaa5), Ok(()));
     assert_eq!(rt; bench.left.read(0), 0xa5);
-    assert_eq!(rt; bench.machine.registers[10], 0);
+    let r12 = bench.machine.registers[10];
+    assert_eq!(rt; r12, 0);
 }
 
 #[test]
