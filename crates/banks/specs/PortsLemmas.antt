@@ -35,7 +35,7 @@ pub stored_at : (bytes : List ℕ) (k : ℕ) → k < length bytes → port_at (s
 stored_at bytes k h = get_or-map stored bytes k 0 blank h
 
 -- byte k merged by a mask of ones is port k merged by its own mask
-pub stored-merged : (bytes : List ℕ) (k v : ℕ) (mix : ℕ → ℕ → ℕ) → k < length bytes → v ≡ mix 255 (slice_index bytes k) → stored_ports (slice_set bytes k v) ≡ slice_set (stored_ports bytes) k (record { byte = mix (port_at (stored_ports bytes) k).mask (port_at (stored_ports bytes) k).byte; mask = (port_at (stored_ports bytes) k).mask })
-stored-merged bytes k v mix h e =
+pub stored_merged : (bytes : List ℕ) (k v : ℕ) (mix : ℕ → ℕ → ℕ) → k < length bytes → v ≡ mix 255 (slice_index bytes k) → stored_ports (slice_set bytes k v) ≡ slice_set (stored_ports bytes) k (record { byte = mix (port_at (stored_ports bytes) k).mask (port_at (stored_ports bytes) k).byte; mask = (port_at (stored_ports bytes) k).mask })
+stored_merged bytes k v mix h e =
     map-set stored bytes k v
     ∙ ap (λ (p : Port). set (stored_ports bytes) k p) (ap stored e ∙ ap (λ (p : Port). record { byte = mix p.mask p.byte; mask = p.mask }) (sym (stored_at bytes k h)))

@@ -6,7 +6,7 @@ use lib.Pow.{mod-mod-pow, mod-pow-add}
 use Rattle.std.proofs.lemmas.Nat.{field_of, div_below, mod_below}
 use Rattle.std.proofs.lemmas.Bool.Decides.{Decides-eqb}
 use Rattle.operands.specs.Bytes.{rotated}
-use Rattle.operands.proofs.Rotations.{every, every-at}
+use Rattle.operands.proofs.Rotations.{every, every_at}
 use Rattle.bits.specs.Bits.{bit, carry_into}
 
 pub bit-and : (a b k : ℕ) → bit (bit_and a b) k ≡ min (bit a k) (bit b k)
@@ -61,14 +61,14 @@ rightly n b k = eqb (bit (rotated n b) k) (bit b ((k + n) % 8))
 pub bit-rotated : (n b k : ℕ) → n < 8 → b < 256 → k < 8 → bit (rotated n b) k ≡ bit b ((k + n) % 8)
 unfolding rightly
 bit-rotated n b k hn hb hk =
-    let all = every-at 8 (λ m. every 256 (λ a. every 8 (rightly m a))) refl n hn in
-    (Decides-eqb _ _).0 (every-at 8 (rightly n b) (every-at 256 (λ a. every 8 (rightly n a)) all b hb) k hk)
+    let all = every_at 8 (λ m. every 256 (λ a. every 8 (rightly m a))) refl n hn in
+    (Decides-eqb _ _).0 (every_at 8 (rightly n b) (every_at 256 (λ a. every 8 (rightly n a)) all b hb) k hk)
 
 -- every bit of a byte of n ones is 1
 pub bit-ones : (n k : ℕ) → n ≤ 8 → k < n → bit (2 ^ n - 1) k ≡ 1
 bit-ones n k h g =
     let one = λ (m j : ℕ). eqb (bit (2 ^ m - 1) j) 1 in
-    (Decides-eqb _ _).0 (every-at n (one n) (every-at 9 (λ m. every m (one m)) refl n (omega arith)) k g)
+    (Decides-eqb _ _).0 (every_at n (one n) (every_at 9 (λ m. every m (one m)) refl n (omega arith)) k g)
 
 -- a sum's quotient
 div_sum : (x y p : ℕ) → zero < p → (x + y) / p ≡ x / p + y / p + (x % p + y % p) / p

@@ -14,16 +14,16 @@ use Rattle.bits.proofs.Bits.{bit-and, bit-xor, bit_mod, bit_past, bit_mod_past, 
 
 -- sets that hold more
 
-pub marked-inside : (O R : ℕ → ℕ → Type 0) → ((k v : ℕ) → k < 8 → O k v → R k v) → Inside (Marked O) (Marked R)
-marked-inside O R f b m = (m.0, λ k h. f k (bit b k) h (m.1 k h))
+pub marked_inside : (O R : ℕ → ℕ → Type 0) → ((k v : ℕ) → k < 8 → O k v → R k v) → Inside (Marked O) (Marked R)
+marked_inside O R f b m = (m.0, λ k h. f k (bit b k) h (m.1 k h))
 
 pub may_inside : (P U : Bytes) (k v : ℕ) → Inside P U → May P k v → May U k v
 may_inside P U k v i m = (m.0, (i m.0 m.1.0, m.1.1))
 
-carry-inside : (P Q U V : Bytes) (k w : ℕ) → Inside P U → Inside Q V → MayCarry P Q k w → MayCarry U V k w
-carry-inside P Q U V zero w i j m = m
-carry-inside P Q U V (suc k) w i j (u, v, c, (p, q, m, e)) =
-    (u, v, c, (may_inside P U k u i p, may_inside Q V k v j q, carry-inside P Q U V k c i j m, e))
+carry_inside : (P Q U V : Bytes) (k w : ℕ) → Inside P U → Inside Q V → MayCarry P Q k w → MayCarry U V k w
+carry_inside P Q U V zero w i j m = m
+carry_inside P Q U V (suc k) w i j (u, v, c, (p, q, m, e)) =
+    (u, v, c, (may_inside P U k u i p, may_inside Q V k v j q, carry_inside P Q U V k c i j m, e))
 
 one_may_inside : (f : One) (P U : Bytes) → Inside P U → (k v : ℕ) → OneMay f P k v → OneMay f U k v
 one_may_inside (rotate n) P U i k v m = may_inside P U _ v i m
@@ -33,8 +33,8 @@ two_may_inside : (f : Two) (P Q U V : Bytes) → Inside P U → Inside Q V → (
 two_may_inside and P Q U V i j k o (u, v, (p, q, e)) = (u, v, (may_inside P U k u i p, may_inside Q V k v j q, e))
 two_may_inside xor P Q U V i j k o (u, v, (p, q, e)) = (u, v, (may_inside P U k u i p, may_inside Q V k v j q, e))
 two_may_inside sum P Q U V i j k o (u, v, w, (p, q, m, e)) =
-    (u, v, w, (may_inside P U k u i p, may_inside Q V k v j q, carry-inside P Q U V k w i j m, e))
-two_may_inside carry P Q U V i j zero o m = carry-inside P Q U V 8 o i j m
+    (u, v, w, (may_inside P U k u i p, may_inside Q V k v j q, carry_inside P Q U V k w i j m, e))
+two_may_inside carry P Q U V i j zero o m = carry_inside P Q U V 8 o i j m
 two_may_inside carry P Q U V i j (suc k) o m = m
 
 -- what members give
@@ -46,19 +46,19 @@ mul_bits u v hu hv =
 may_has : (P : Bytes) (a k : ℕ) → P a → May P k (bit a k)
 may_has P a k p = (a, (p, refl))
 
-carry-has : (P Q : Bytes) (a b k : ℕ) → P a → Q b → MayCarry P Q k (carry_into a b k)
+carry_has : (P Q : Bytes) (a b k : ℕ) → P a → Q b → MayCarry P Q k (carry_into a b k)
 unfolding carry_into
-carry-has P Q a b zero p q = refl
-carry-has P Q a b (suc k) p q =
-    (bit a k, bit b k, carry_into a b k, (may_has P a k p, may_has Q b k q, carry-has P Q a b k p q, refl))
+carry_has P Q a b zero p q = refl
+carry_has P Q a b (suc k) p q =
+    (bit a k, bit b k, carry_into a b k, (may_has P a k p, may_has Q b k q, carry_has P Q a b k p q, refl))
 
-carry-small : (P Q : Bytes) (k w : ℕ) → MayCarry P Q k w → w ≤ 1
-carry-small P Q zero w m = omega arith
-carry-small P Q (suc k) w (u, v, c, ((a, (p, ea)), (b, (q, eb)), m, e)) = omega (arith, carry-small P Q k c m)
+carry_small : (P Q : Bytes) (k w : ℕ) → MayCarry P Q k w → w ≤ 1
+carry_small P Q zero w m = omega arith
+carry_small P Q (suc k) w (u, v, c, ((a, (p, ea)), (b, (q, eb)), m, e)) = omega (arith, carry_small P Q k c m)
 
 carry_bits : (P Q : Bytes) (w k : ℕ) → MayCarry P Q 8 w → TwoMay carry P Q k (bit w k)
-carry_bits P Q w zero m = let e : w ≡ bit w 0 = omega (arith, carry-small P Q 8 w m) in subst (MayCarry P Q 8) e m
-carry_bits P Q w (suc k) m = bit_past w 1 (suc k) (omega (arith, carry-small P Q 8 w m)) (omega arith)
+carry_bits P Q w zero m = let e : w ≡ bit w 0 = omega (arith, carry_small P Q 8 w m) in subst (MayCarry P Q 8) e m
+carry_bits P Q w (suc k) m = bit_past w 1 (suc k) (omega (arith, carry_small P Q 8 w m)) (omega arith)
 
 one_may_has : (f : One) (P : Bytes) (a k : ℕ) → a < 256 → k < 8 → P a → OneMay f P k (bit (one f a) k)
 one_may_has (rotate n) P a k ha hk p = (a, (p, sym (bit-rotated (n % 8) a k (omega arith) ha hk)))
@@ -71,9 +71,9 @@ two_may_has and P Q a b k ha hb hk p q =
     (bit a k, bit b k, (may_has P a k p, may_has Q b k q, bit-and a b k ∙ sym (mul_bits (bit a k) (bit b k) (omega arith) (omega arith))))
 two_may_has xor P Q a b k ha hb hk p q = (bit a k, bit b k, (may_has P a k p, may_has Q b k q, bit-xor a b k))
 two_may_has sum P Q a b k ha hb hk p q =
-    (bit a k, bit b k, carry_into a b k, (may_has P a k p, may_has Q b k q, carry-has P Q a b k p q, bit_mod (a + b) 8 k hk ∙ bit_add a b k))
+    (bit a k, bit b k, carry_into a b k, (may_has P a k p, may_has Q b k q, carry_has P Q a b k p q, bit_mod (a + b) 8 k hk ∙ bit_add a b k))
 two_may_has carry P Q a b k ha hb hk p q =
-    carry_bits P Q ((a + b) / 256) k (subst (MayCarry P Q 8) (carry_out a b ha hb) (carry-has P Q a b 8 p q))
+    carry_bits P Q ((a + b) / 256) k (subst (MayCarry P Q 8) (carry_out a b ha hb) (carry_has P Q a b 8 p q))
 
 pub one_below : (f : One) (a : ℕ) → a < 256 → one f a < 256
 one_below (rotate n) a h = omega arith
@@ -92,7 +92,7 @@ mays_lawful has some bytes member =
       bytes = bytes;
       member = member;
       one_has = λ f P a h p. (one_below f a h, λ k g. one_may_has f P a k h g p);
-      two-has = λ f P Q a b ha hb p q. (two_below f a b ha hb, λ k g. two_may_has f P Q a b k ha hb g p q);
-      one_inside = λ f P U i. marked-inside (OneMay f P) (OneMay f U) (λ k v _. one_may_inside f P U i k v);
-      two-inside = λ f P Q U V i j. marked-inside (TwoMay f P Q) (TwoMay f U V) (λ k v _. two_may_inside f P Q U V i j k v);
+      two_has = λ f P Q a b ha hb p q. (two_below f a b ha hb, λ k g. two_may_has f P Q a b k ha hb g p q);
+      one_inside = λ f P U i. marked_inside (OneMay f P) (OneMay f U) (λ k v _. one_may_inside f P U i k v);
+      two_inside = λ f P Q U V i j. marked_inside (TwoMay f P Q) (TwoMay f U V) (λ k v _. two_may_inside f P Q U V i j k v);
     }

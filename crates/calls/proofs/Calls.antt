@@ -24,20 +24,20 @@ alongside_driven_on : (Among : ℕ → ℕ → Type 0) (t : Bool) (k v : ℕ) (p
 alongside_driven_on Among true k v ps qs same = alongside_driven Among ps qs same k v
 alongside_driven_on Among false k v ps qs same = same
 
-banks-driven : (Among : ℕ → ℕ → Type 0) (code : List ℕ) (bank side : Side) (k v : ℕ) (st : State) (lone : Lone) → Alongside Among (ports_of side st) (lone_ports side lone) → Alongside Among (ports_of side (did code (drive bank k v) st)) (lone_ports side (alone (drive bank k v) lone))
-banks-driven Among code bank Left k v st lone same = alongside_driven_on Among (same_side bank Left) k v st.left lone.left same
-banks-driven Among code bank Right k v st lone same = alongside_driven_on Among (same_side bank Right) k v st.right lone.right same
+banks_driven : (Among : ℕ → ℕ → Type 0) (code : List ℕ) (bank side : Side) (k v : ℕ) (st : State) (lone : Lone) → Alongside Among (ports_of side st) (lone_ports side lone) → Alongside Among (ports_of side (did code (drive bank k v) st)) (lone_ports side (alone (drive bank k v) lone))
+banks_driven Among code bank Left k v st lone same = alongside_driven_on Among (same_side bank Left) k v st.left lone.left same
+banks_driven Among code bank Right k v st lone same = alongside_driven_on Among (same_side bank Right) k v st.right lone.right same
 
 module _ {K : Type 0} (o : Operations K) (l : Lawful o) (code grants : List ℕ) (t : Table K) (m : Meets o code grants t) where
   drive_keeps : (bank : Side) (k v : ℕ) (st : State) (lone : Lone) → Stands o code grants t st lone → Stands o code grants t (did code (drive bank k v) st) (alone (drive bank k v) lone)
   drive_keeps bank k v st lone g =
       record {
-        pc-inside = g.pc-inside;
-        ar-inside = g.ar-inside;
+        pc_inside = g.pc_inside;
+        ar_inside = g.ar_inside;
         entered = g.entered;
         allowed = g.allowed;
         carry = g.carry;
-        banks = λ side. banks-driven (Withheld grants side) code bank side k v st lone (g.banks side);
+        banks = λ side. banks_driven (Withheld grants side) code bank side k v st lone (g.banks side);
         aimed = g.aimed;
       }
 

@@ -34,7 +34,7 @@ use Rattle.calls.specs.Promise.{Withheld}
 use Rattle.calls.proofs.Ports.{Alongside}
 use Rattle.calls.proofs.Writes.{Avoids, performed_covered, alongside_covered}
 use Rattle.calls.proofs.Members.{source_has}
-use Rattle.calls.proofs.Stores.{Allowed, allowed-to, allowed-more, allowed-after}
+use Rattle.calls.proofs.Stores.{Allowed, allowed_to, allowed_more, allowed_after}
 use Rattle.calls.proofs.Addresses.{next_performed, both_addresses}
 use Rattle.calls.proofs.Standing.{Stands, stands_small, stands_start}
 
@@ -83,7 +83,7 @@ module _ {K : Type 0} (o : Operations K) (l : Lawful o) (code grants : List ℕ)
   here = holds o t st.core.pc
 
   clear : ClearAt o code grants here st.core.pc
-  clear = m.clear st.core.pc g.pc-inside g.entered
+  clear = m.clear st.core.pc g.pc_inside g.entered
 
   -- an instruction that runs, or stands, at the program counter is served
   runs_served : (i : Instruction) → (instruction_at code st.core.pc ≡ Some i) ⊎ Runs o code here st.core.pc i → served i st.core ≡ true
@@ -91,8 +91,8 @@ module _ {K : Type 0} (o : Operations K) (l : Lawful o) (code grants : List ℕ)
       all_served i st.core
       (λ side u. ⊎_elim (λ e. e) (λ e. absurd (clear breach.Unready (i, (how, (side, (u, g.allowed.marks side e)))))) (cases_Bool (ready_of side st.core)))
 
-  banks-performed : (i : Instruction) → Avoids (Withheld grants) (cover i) st → (side : Side) → Alongside (Withheld grants side) (ports_of side (performed i st)) (lone_ports side lone)
-  banks-performed i n side = alongside_covered (Withheld grants) (cover i) st (performed i st) side (lone_ports side lone) (performed_covered i st) n (g.banks side)
+  banks_performed : (i : Instruction) → Avoids (Withheld grants) (cover i) st → (side : Side) → Alongside (Withheld grants side) (ports_of side (performed i st)) (lone_ports side lone)
+  banks_performed i n side = alongside_covered (Withheld grants) (cover i) st (performed i st) side (lone_ports side lone) (performed_covered i st) n (g.banks side)
 
   -- an instruction other than XEC
   stands_performed : (i : Instruction) → Runs o code here st.core.pc i → Stands o code grants t (performed i st) lone
@@ -104,15 +104,15 @@ module _ {K : Type 0} (o : Operations K) (l : Lawful o) (code grants : List ℕ)
       let next = next_performed o l here st small g.allowed i plain in
       let within : q < words_in code =
       ⊎_elim (λ h. h) (λ h. absurd (clear breach.Outside (inr (i, (runs, (q, (next, h))))))) (cases_lt q (words_in code)) in
-      let flow = m.rules.flows st.core.pc g.pc-inside g.entered i runs q within next in
+      let flow = m.rules.flows st.core.pc g.pc_inside g.entered i runs q within next in
       let avoids = avoids_withheld grants (cover i) here st (λ x. clear breach.Withheld (i, (runs, x))) g.allowed in
       record {
-        pc-inside = within;
-        ar-inside = subst (λ a. a < words_in code) (sym (both_addresses i st plain)) within;
+        pc_inside = within;
+        ar_inside = subst (λ a. a < words_in code) (sym (both_addresses i st plain)) within;
         entered = flow.0;
-        allowed = allowed-more (after o i here) (holds o t q) v.core flow.1 (allowed-after o l i here st small g.allowed);
+        allowed = allowed_more (after o i here) (holds o t q) v.core flow.1 (allowed_after o l i here st small g.allowed);
         carry = (laws_performed i st (meaning_spares_r10 (word_at code runs.0) i runs.1.1.1.0)).r10_is_a_bit g.carry;
-        banks = banks-performed i avoids;
+        banks = banks_performed i avoids;
         aimed = inl (both_addresses i st plain);
       }
 
@@ -124,12 +124,12 @@ module _ {K : Type 0} (o : Operations K) (l : Lawful o) (code grants : List ℕ)
       let target : RunsAt o code here st.core.pc a =
       subst (λ (w : Option Instruction). ReachesBy o here st.core.pc w a) (sym e) (b, (source_has o l x here st (stands_small o l code grants t st lone g) g.allowed.members, refl)) in
       record {
-        pc-inside = g.pc-inside;
-        ar-inside = ⊎_elim (λ h. h) (λ h. absurd (clear breach.Outside (inl (a, (target, h))))) (cases_lt a (words_in code));
+        pc_inside = g.pc_inside;
+        ar_inside = ⊎_elim (λ h. h) (λ h. absurd (clear breach.Outside (inl (a, (target, h))))) (cases_lt a (words_in code));
         entered = g.entered;
-        allowed = allowed-to st.core.pc a here st.core g.allowed;
+        allowed = allowed_to st.core.pc a here st.core g.allowed;
         carry = g.carry;
-        banks = banks-performed (Xec x j) tt;
+        banks = banks_performed (Xec x j) tt;
         aimed = inr target;
       }
 
@@ -138,13 +138,13 @@ module _ {K : Type 0} (o : Operations K) (l : Lawful o) (code grants : List ℕ)
   Performs = (i : Instruction) × (cycle_of code false false st ≡ (Ok tt, performed i st)) × Stands o code grants t (performed i st) lone
 
   performs_reached : (w : Option Instruction) → instruction_at code st.core.ar ≡ w → RunsAt o code here st.core.pc st.core.ar → Performs
-  performs_reached None e r = absurd (clear breach.NotPermitted (st.core.ar, (r, (g.ar-inside, e))))
+  performs_reached None e r = absurd (clear breach.NotPermitted (st.core.ar, (r, (g.ar_inside, e))))
   performs_reached (Some i) e r =
       ⊎_elim
-      (λ x. absurd (clear breach.Chain (st.core.ar, (r, (g.ar-inside, (i, (e, x)))))))
+      (λ x. absurd (clear breach.Chain (st.core.ar, (r, (g.ar_inside, (i, (e, x)))))))
       (λ x.
-      let runs : Runs o code here st.core.pc i = (st.core.ar, (r, (g.ar-inside, (e, x)))) in
-      (i, cycle_performs code st i g.ar-inside e (runs_served i (inr runs)), stands_performed i runs))
+      let runs : Runs o code here st.core.pc i = (st.core.ar, (r, (g.ar_inside, (e, x)))) in
+      (i, cycle_performs code st i g.ar_inside e (runs_served i (inr runs)), stands_performed i runs))
       (cases_Bool (is_xec i))
 
   performs_own : st.core.ar ≡ st.core.pc → Performs
@@ -152,7 +152,7 @@ module _ {K : Type 0} (o : Operations K) (l : Lawful o) (code grants : List ℕ)
       elim (aims o here st.core.pc (instruction_at code st.core.pc)) [
         | inl x ↦
             let i = Xec x.0 x.1 in
-            (i, cycle_performs code st i g.ar-inside (ap (instruction_at code) same ∙ x.2) (runs_served i (inl x.2)), stands_aimed x.0 x.1 x.2)
+            (i, cycle_performs code st i g.ar_inside (ap (instruction_at code) same ∙ x.2) (runs_served i (inl x.2)), stands_aimed x.0 x.1 x.2)
         | inr r ↦ performs_reached (instruction_at code st.core.ar) refl (subst (λ a. RunsAt o code here st.core.pc a) (sym same) r)
       ]
 
@@ -161,5 +161,5 @@ module _ {K : Type 0} (o : Operations K) (l : Lawful o) (code grants : List ℕ)
 
   pub stands_reset : Stands o code grants t (with_core (to 0 0) st) lone
   stands_reset =
-      stands_start o l code grants t (with_core (to 0 0) st) lone m.rules (omega (arith, g.pc-inside)) refl refl g.allowed.size (stands_small o l code grants t st lone g) g.carry
+      stands_start o l code grants t (with_core (to 0 0) st) lone m.rules (omega (arith, g.pc_inside)) refl refl g.allowed.size (stands_small o l code grants t st lone g) g.carry
       (λ side. subst (λ (ps : Ports). Alongside (Withheld grants side) ps (lone_ports side lone)) (sym (ports-with_core side (to 0 0) st)) (g.banks side))

@@ -6,11 +6,11 @@ use Rattle.bits.specs.Bits.{bit}
 use Rattle.banks.specs.Ports.{Ports, blank, port_at, written_at, driven, driven_at}
 use Rattle.banks.specs.declared.port.Port.{Port}
 use Rattle.banks.specs.PortsLemmas.{merged_mixed}
-use Rattle.engine.proofs.Laws.{mask-written}
+use Rattle.engine.proofs.Laws.{mask_written}
 
 -- what holds at one place and at every other holds everywhere
-pub here-and-elsewhere : (P : ℕ → Type 0) (p : ℕ) → P p → ((k : ℕ) → (k ≡ p → ⊥) → P k) → (k : ℕ) → P k
-here-and-elsewhere P p here elsewhere k = ⊎_elim (λ e. subst P (sym e) here) (elsewhere k) (cases_eq k p)
+pub here_and_elsewhere : (P : ℕ → Type 0) (p : ℕ) → P p → ((k : ℕ) → (k ≡ p → ⊥) → P k) → (k : ℕ) → P k
+here_and_elsewhere P p here elsewhere k = ⊎_elim (λ e. subst P (sym e) here) (elsewhere k) (cases_eq k p)
 
 -- the same mask, and the same bits wherever they are among some
 abbrev pub Matches : (ℕ → Type 0) → Port → Port → Type 0
@@ -49,7 +49,7 @@ module _ (Among : ℕ → ℕ → Type 0) (ps qs : Ports) (same : Alongside Amon
       λ zs z h. get_or_past (set zs p z) p blank (omega (arith, length-set zs p z)) in
       record {
         sizes = length-set ps p x ∙ n ∙ sym (length-set qs p y);
-        ports = here-and-elsewhere (λ k. Matches (Among k) (port_at (set ps p x) k) (port_at (set qs p y) k)) p
+        ports = here_and_elsewhere (λ k. Matches (Among k) (port_at (set ps p x) k) (port_at (set qs p y) k)) p
             (⊎_elim
             (λ h. matches_as (Among p) x y _ _ (get_or-set_same ps p x blank h) (get_or-set_same qs p y blank (omega arith)) (matches_driven (Among p) v (port_at ps p) (port_at qs p) (same.ports p)))
             (λ h. matches_as (Among p) blank blank _ _ (past ps x h) (past qs y (omega arith)) (refl, λ j a. refl))
@@ -62,7 +62,7 @@ module _ (Among : ℕ → ℕ → Type 0) (ps qs : Ports) (same : Alongside Amon
   alongside_written rs p v e left =
       record {
         sizes = ap (λ (zs : Ports). length zs) e ∙ length-set ps p _ ∙ same.sizes;
-        ports = here-and-elsewhere (λ k. Matches (Among k) (port_at rs k) (port_at qs k)) p
-            (ap (λ (zs : Ports). (port_at zs p).mask) e ∙ mask-written ps p v ∙ (same.ports p).0, λ j a. left j a ∙ (same.ports p).1 j a)
+        ports = here_and_elsewhere (λ k. Matches (Among k) (port_at rs k) (port_at qs k)) p
+            (ap (λ (zs : Ports). (port_at zs p).mask) e ∙ mask_written ps p v ∙ (same.ports p).0, λ j a. left j a ∙ (same.ports p).1 j a)
             (λ k n. matches_as (Among k) _ _ _ _ (ap (λ (zs : Ports). port_at zs k) e ∙ get_or-set_other ps p k _ blank n) refl (same.ports k));
       }

@@ -11,18 +11,18 @@ use Rattle.flow.specs.Tables.{Table}
 use Rattle.flow.specs.Breaches.{Meets}
 use Rattle.calls.specs.Calls.{Call, Lone, lone_ports}
 use Rattle.calls.specs.Promise.{Withheld, Keeps, Promise}
-use Rattle.calls.proofs.Ports.{here-and-elsewhere, Alongside, alongside_itself}
+use Rattle.calls.proofs.Ports.{here_and_elsewhere, Alongside, alongside_itself}
 use Rattle.calls.proofs.Standing.{Stands, stands_held, stands_start}
 use Rattle.calls.proofs.Calls.{call_keeps}
 
 -- the registers of a new machine are bytes, and R10 is a bit
-fresh-carry : (registers : List ℕ) → length registers ≡ 16 → get_or (fresh registers).registers 8 0 ≡ get_or registers 8 0 % 2
-fresh-carry registers size = get_or-set_same registers 8 (get_or registers 8 0 % 2) 0 (omega arith)
+fresh_carry : (registers : List ℕ) → length registers ≡ 16 → get_or (fresh registers).registers 8 0 ≡ get_or registers 8 0 % 2
+fresh_carry registers size = get_or-set_same registers 8 (get_or registers 8 0 % 2) 0 (omega arith)
 
-fresh-small : (registers : List ℕ) → length registers ≡ 16 → ((k : ℕ) → get_or registers k 0 < 256) → (r : ℕ) → get_or (fresh registers).registers r 0 < 256
-fresh-small registers size small =
-    here-and-elsewhere (λ r. get_or (fresh registers).registers r 0 < 256) 8
-    (omega (arith, fresh-carry registers size))
+fresh_small : (registers : List ℕ) → length registers ≡ 16 → ((k : ℕ) → get_or registers k 0 < 256) → (r : ℕ) → get_or (fresh registers).registers r 0 < 256
+fresh_small registers size small =
+    here_and_elsewhere (λ r. get_or (fresh registers).registers r 0 < 256) 8
+    (omega (arith, fresh_carry registers size))
     (λ r e. subst (λ b. b < 256) (sym (get_or-set_other registers 8 r (get_or registers 8 0 % 2) 0 e)) (small r))
 
 -- the lone banks begin as the banks stand
@@ -42,6 +42,6 @@ module _ {K : Type 0} (o : Operations K) (l : Lawful o) (code grants : List ℕ)
       calls_keep m calls _ _
       (stands_start o l code grants t (record { core = fresh registers; left = left; right = right }) (record { left = left; right = right }) m.rules full refl refl
       (length-set registers 8 _ ∙ size)
-      (λ r h. fresh-small registers size small r)
-      (omega (arith, fresh-carry registers size))
+      (λ r h. fresh_small registers size small r)
+      (omega (arith, fresh_carry registers size))
       (banks_begin grants (fresh registers) left right))

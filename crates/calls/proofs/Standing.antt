@@ -11,16 +11,16 @@ use Rattle.engine.specs.States.{Core, State, ports_of}
 use Rattle.flow.specs.States.{Unready, start_register, start}
 use Rattle.flow.specs.Ways.{RunsAt}
 use Rattle.flow.specs.Tables.{Table, holds, Rules}
-use Rattle.flow.proofs.Parts.{same_then, same_else, seen-register}
+use Rattle.flow.proofs.Parts.{same_then, same_else, seen_register}
 use Rattle.calls.specs.Calls.{Lone, lone_ports}
 use Rattle.calls.specs.Promise.{Withheld, Held}
 use Rattle.calls.proofs.Ports.{Alongside}
-use Rattle.calls.proofs.Stores.{Allowed, allowed-more}
+use Rattle.calls.proofs.Stores.{Allowed, allowed_more}
 
 -- what is held; beside it the banks' marks, the bit in R10, all ports, and that the word at the address register may run
 pub record Stands {K : Type 0} (o : Operations K) (code grants : List ℕ) (t : Table K) (st : State) (lone : Lone) : Type 0 where
-  pub pc-inside : st.core.pc < words_in code
-  pub ar-inside : st.core.ar < words_in code
+  pub pc_inside : st.core.pc < words_in code
+  pub ar_inside : st.core.ar < words_in code
   pub entered : t.entry st.core.pc ≡ true
   pub allowed : Allowed (holds o t st.core.pc) st.core
   pub carry : get_or st.core.registers 8 0 < 2
@@ -33,8 +33,8 @@ module _ {K : Type 0} (o : Operations K) (l : Lawful o) where
   start_unready Right = tt
 
   -- any bytes are allowed at the start, and in R10 a bit
-  allowed-start : (c : Core) → length c.registers ≡ 16 → ((r : ℕ) → r < 16 → get_or c.registers r 0 < 256) → get_or c.registers 8 0 < 2 → Allowed (start o) c
-  allowed-start c size small carry =
+  allowed_start : (c : Core) → length c.registers ≡ 16 → ((r : ℕ) → r < 16 → get_or c.registers r 0 < 256) → get_or c.registers 8 0 < 2 → Allowed (start o) c
+  allowed_start c size small carry =
       let low = o.ones (keep 1) Every in
       let b = get_or c.registers 8 0 in
       let unit : b % 2 ≡ b = omega arith in
@@ -53,7 +53,7 @@ module _ {K : Type 0} (o : Operations K) (l : Lawful o) where
     stands_member : Stands o code grants t st lone → (r : ℕ) → r < 16 → o.has (t.cell st.core.pc r) (get_or st.core.registers r 0)
     stands_member g r h =
         let p = st.core.pc in
-        (seen-register o (t.cell p) (t.left p) (t.right p) r h).1 _ (g.allowed.members r h)
+        (seen_register o (t.cell p) (t.left p) (t.right p) r h).1 _ (g.allowed.members r h)
 
     pub stands_small : Stands o code grants t st lone → (r : ℕ) → r < 16 → get_or st.core.registers r 0 < 256
     stands_small g r h = l.bytes (t.cell st.core.pc r) _ (stands_member g r h)
@@ -61,8 +61,8 @@ module _ {K : Type 0} (o : Operations K) (l : Lawful o) where
     pub stands_held : Stands o code grants t st lone → Held o code grants t st lone
     stands_held g =
         record {
-          pc-inside = g.pc-inside;
-          ar-inside = g.ar-inside;
+          pc_inside = g.pc_inside;
+          ar_inside = g.ar_inside;
           entered = g.entered;
           members = stands_member g;
           withheld = λ side k j w. ((g.banks side).ports k).1 j w;
@@ -72,10 +72,10 @@ module _ {K : Type 0} (o : Operations K) (l : Lawful o) where
     pub stands_start : Rules o code t → 0 < words_in code → st.core.pc ≡ 0 → st.core.ar ≡ 0 → length st.core.registers ≡ 16 → ((r : ℕ) → r < 16 → get_or st.core.registers r 0 < 256) → get_or st.core.registers 8 0 < 2 → ((side : Side) → Alongside (Withheld grants side) (ports_of side st) (lone_ports side lone)) → Stands o code grants t st lone
     stands_start rules full zp za size small carry banks =
         record {
-          pc-inside = omega arith;
-          ar-inside = omega arith;
+          pc_inside = omega arith;
+          ar_inside = omega arith;
           entered = ap t.entry zp ∙ rules.starts;
-          allowed = subst (λ p. Allowed (holds o t p) st.core) (sym zp) (allowed-more (start o) (holds o t 0) st.core rules.allows-start (allowed-start st.core size small carry));
+          allowed = subst (λ p. Allowed (holds o t p) st.core) (sym zp) (allowed_more (start o) (holds o t 0) st.core rules.allows_start (allowed_start st.core size small carry));
           carry = carry;
           banks = banks;
           aimed = inl (za ∙ sym zp);

@@ -14,7 +14,7 @@ use Rattle.effects.specs.Fields.{field_mask}
 use Rattle.effects.specs.Usage.{same_side, source_side, whole_port}
 use Rattle.engine.specs.States.{Core, State, ports_of, port_number, port_byte, stored, to, with_core}
 use Rattle.engine.specs.Effects.{latch_side, delivered, transmitted_to, overflowed, performed}
-use Rattle.engine.proofs.Laws.{side_cases, WrittenOnce, written_once, ports-with_core, port-overflowed, keeps_own}
+use Rattle.engine.proofs.Laws.{side_cases, WrittenOnce, written_once, ports-with_core, port_overflowed, keeps_own}
 use Rattle.flow.specs.Breaches.{Cover, cover_from, field_cover, port_cover, cover}
 use Rattle.calls.proofs.Ports.{Alongside, alongside_written}
 
@@ -45,7 +45,7 @@ delivered_covered (destination.Register r) origin v c g a = λ side. ports-with_
 delivered_covered (destination.Field f) origin v c g a = (
   _,
   (
-    written_once f.side g (overflowed c) _ a (port-overflowed f.side c a),
+    written_once f.side g (overflowed c) _ a (port_overflowed f.side c a),
     λ j h z. let own = latch_own origin f j h z in keeps_own (destination.Field f) origin v c g a own.0 j own.1,
   ),
 )

@@ -24,8 +24,8 @@ abbrev pub Withheld : List ℕ → Side → ℕ → ℕ → Type 0
 Withheld grants side k j = (j < 8) × (bit (mask_of grants side k) j ≡ 0)
 
 pub record Held {K : Type 0} (o : Operations K) (code grants : List ℕ) (t : Table K) (st : State) (lone : Lone) : Type 0 where
-  pub pc-inside : st.core.pc < words_in code
-  pub ar-inside : st.core.ar < words_in code
+  pub pc_inside : st.core.pc < words_in code
+  pub ar_inside : st.core.ar < words_in code
   pub entered : t.entry st.core.pc ≡ true
   pub members : (r : ℕ) → r < 16 → o.has (t.cell st.core.pc r) (slice_index st.core.registers r)
   pub withheld : (side : Side) (k j : ℕ) → Withheld grants side k j → bit (port_at (ports_of side st) k).byte j ≡ bit (port_at (lone_ports side lone) k).byte j

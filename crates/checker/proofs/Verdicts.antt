@@ -86,9 +86,9 @@ module _ {K : Type 0} (o : Operations K) (l : Lawful o) (joined : K → K → By
     judged_scanned (verdict.Found k p) words reached w r room' s = judged_found k p s.1
 
 -- the bytes of the parts of an image
-pub code-bytes : (file : List ℕ) (start n : ℕ) (x : Part) → IsCode file start n x → part_bytes x ≡ take n (drop start file)
-code-bytes file start n (Code bytes place) h = h.1
-code-bytes file start n (Grants bytes place) h = absurd h
+pub code_bytes : (file : List ℕ) (start n : ℕ) (x : Part) → IsCode file start n x → part_bytes x ≡ take n (drop start file)
+code_bytes file start n (Code bytes place) h = h.1
+code_bytes file start n (Grants bytes place) h = absurd h
 
 pub grant_bytes : (file : List ℕ) (start n : ℕ) (x : Part) → IsGrants file start n x → part_bytes x ≡ take n (drop start file)
 grant_bytes file start n (Code bytes place) h = absurd h

@@ -48,8 +48,8 @@ same_cond : (t : Bool) (x y z : ℕ) → x ≡ z → y ≡ z → cond t x y ≡ 
 same_cond true x y z e f = e
 same_cond false x y z e f = f
 
-pub mask-written : (ps : Ports) (k v : ℕ) → (port_at (written_at k v ps) k).mask ≡ (port_at ps k).mask
-mask-written ps k v =
+pub mask_written : (ps : Ports) (k v : ℕ) → (port_at (written_at k v ps) k).mask ≡ (port_at ps k).mask
+mask_written ps k v =
     elim (set_there ps k (written v (port_at ps k)) blank) [
       | inl e ↦ ap (λ (p : Port). p.mask) e
       | inr e ↦ ap (λ (p : Port). p.mask) e
@@ -86,8 +86,8 @@ pub record WrittenOnce (a b : State) (side : Side) (k v : ℕ) : Type 0 where
   pub here : ports_of side b ≡ written_at k v (ports_of side a)
   pub there : (s : Side) → (s ≡ side → ⊥) → ports_of s b ≡ ports_of s a
 
-one-port : (a b : State) (side : Side) (k v : ℕ) → WrittenOnce a b side k v → OnePort a b
-one-port a b side k v w =
+one_port : (a b : State) (side : Side) (k v : ℕ) → WrittenOnce a b side k v → OnePort a b
+one_port a b side k v w =
     let at = λ (f : Ports → ℕ). ap f w.here in
     record {
       bank = side;
@@ -97,7 +97,7 @@ one-port a b side k v w =
             | inl e ↦ subst (λ (t : Side). port_at (ports_of t b) i ≡ port_at (ports_of t a) i) (sym e) (ap (λ (ps : Ports). port_at ps i) w.here ∙ get_or-set_other (ports_of side a) k i (written v (port_at (ports_of side a) k)) blank (λ f. n (e, f)))
             | inr e ↦ ap (λ (ps : Ports). port_at ps i) (w.there s e)
           ];
-      mask = at (λ (ps : Ports). (port_at ps k).mask) ∙ mask-written (ports_of side a) k v;
+      mask = at (λ (ps : Ports). (port_at ps k).mask) ∙ mask_written (ports_of side a) k v;
       fixed = λ j e. at (λ (ps : Ports). bit (port_at ps k).byte j) ∙ bit-written (ports_of side a) k v j (inl e);
     }
 
@@ -129,10 +129,10 @@ written_once side f g v a e =
       there = λ s n. untouched side f v x s n ∙ ports-with_core s g a;
     }
 
-pub port-overflowed : (side : Side) (c : Option ℕ) (a : State) → port_number side (with_core (overflowed c) a) ≡ port_number side a
-port-overflowed side None a = refl
-port-overflowed Left (Some v) a = get_or-set_other a.core.registers 8 7 v 0 (λ e. absurd (omega (arith, e)))
-port-overflowed Right (Some v) a = get_or-set_other a.core.registers 8 15 v 0 (λ e. absurd (omega (arith, e)))
+pub port_overflowed : (side : Side) (c : Option ℕ) (a : State) → port_number side (with_core (overflowed c) a) ≡ port_number side a
+port_overflowed side None a = refl
+port_overflowed Left (Some v) a = get_or-set_other a.core.registers 8 7 v 0 (λ e. absurd (omega (arith, e)))
+port_overflowed Right (Some v) a = get_or-set_other a.core.registers 8 15 v 0 (λ e. absurd (omega (arith, e)))
 
 pub keeps_own : (d : Destination) (origin : Option Side) (v : ℕ) (c : Option ℕ) (f : Core → Core) (a : State) → KeepsOwn d origin a (with_core f (delivered d v origin (with_core (overflowed c) a)))
 keeps_own (destination.Register r) origin v c f a = tt
@@ -142,18 +142,18 @@ keeps_own (destination.Field x) origin v c f a = λ e j z.
     let k = port_number side a in
     let w = bus_byte x v (port_byte (latch_side origin x) o) in
     let own : port_byte (latch_side origin x) o ≡ (port_at (ports_of side a) k).byte =
-    ap (λ (s : Side). port_byte s o) e ∙ ap (λ (ps : Ports). (port_at ps (port_number side o)).byte) (ports-with_core side (overflowed c) a) ∙ ap (λ n. (port_at (ports_of side a) n).byte) (port-overflowed side c a) in
+    ap (λ (s : Side). port_byte s o) e ∙ ap (λ (ps : Ports). (port_at ps (port_number side o)).byte) (ports-with_core side (overflowed c) a) ∙ ap (λ n. (port_at (ports_of side a) n).byte) (port_overflowed side c a) in
     let outside : bit w j ≡ bit (port_at (ports_of side a) k).byte j =
     merged_mixed (field_mask x) (raised_by (7 - x.bit) v) (port_byte (latch_side origin x) o) j
     ∙ ap (λ m. cond (eqb m 1) (bit (raised_by (7 - x.bit) v) j) (bit (port_byte (latch_side origin x) o) j)) z
     ∙ ap (λ n. bit n j) own in
-    ap (λ (ps : Ports). bit (port_at ps k).byte j) (written_once side f (overflowed c) w a (port-overflowed side c a)).here
+    ap (λ (ps : Ports). bit (port_at ps k).byte j) (written_once side f (overflowed c) w a (port_overflowed side c a)).here
     ∙ bit-written (ports_of side a) k w j (inr outside)
 
-port-delivered : (d : Destination) (origin : Option Side) (v : ℕ) (c : Option ℕ) (f : Core → Core) (a : State) → OnePort a (with_core f (delivered d v origin (with_core (overflowed c) a)))
-port-delivered (destination.Register r) origin v c f a = no_port a _ (λ side. ports-with_core side (λ (k : Core). f (stored r v (overflowed c k))) a)
-port-delivered (destination.Field x) origin v c f a =
-    one-port a _ x.side (port_number x.side a) _ (written_once x.side f (overflowed c) (bus_byte x v (port_byte (latch_side origin x) (with_core (overflowed c) a))) a (port-overflowed x.side c a))
+port_delivered : (d : Destination) (origin : Option Side) (v : ℕ) (c : Option ℕ) (f : Core → Core) (a : State) → OnePort a (with_core f (delivered d v origin (with_core (overflowed c) a)))
+port_delivered (destination.Register r) origin v c f a = no_port a _ (λ side. ports-with_core side (λ (k : Core). f (stored r v (overflowed c k))) a)
+port_delivered (destination.Field x) origin v c f a =
+    one_port a _ x.side (port_number x.side a) _ (written_once x.side f (overflowed c) (bus_byte x v (port_byte (latch_side origin x) (with_core (overflowed c) a))) a (port_overflowed x.side c a))
 
 -- R10 changes only by a carry, which is 0 or 1
 r10_delivered : (d : Destination) (origin : Option Side) (v : ℕ) (a : State) → (destination_number d ≡ 8 → ⊥) → register R10 (delivered d v origin a) ≡ register R10 a
@@ -194,25 +194,25 @@ laws_alu o s d a n =
       own_bits = keeps_own d (source_side s) v c on a;
       only_add_sets_r10 = λ e. r10 ∙ r10_kept o x y a e;
       r10_is_a_bit = λ h. subst (λ m. m < 2) (sym r10) (r10_small o x y a h);
-      one-port = port-delivered d (source_side s) v c on a;
+      one_port = port_delivered d (source_side s) v c on a;
     }
 
 -- transmits, by the port that is written whole, if any
-registers-transmitted : (q : Option Side) (d : Destination) (j : ℕ) (a : State) → KeepsRegistersIf q a (transmitted_to q d j a)
-registers-transmitted None d j a = tt
-registers-transmitted (Some side) d j a = ap (λ (c : Core). c.registers) (core-with_byte side j a)
+registers_transmitted : (q : Option Side) (d : Destination) (j : ℕ) (a : State) → KeepsRegistersIf q a (transmitted_to q d j a)
+registers_transmitted None d j a = tt
+registers_transmitted (Some side) d j a = ap (λ (c : Core). c.registers) (core-with_byte side j a)
 
-registers-jumped : (q : Option Side) (n : ℕ) (a b : State) → KeepsRegistersIf q a b → KeepsRegistersIf q a (jumped n b)
-registers-jumped None n a b h = tt
-registers-jumped (Some side) n a b h = h
+registers_jumped : (q : Option Side) (n : ℕ) (a b : State) → KeepsRegistersIf q a b → KeepsRegistersIf q a (jumped n b)
+registers_jumped None n a b h = tt
+registers_jumped (Some side) n a b h = h
 
 r10_transmitted : (q : Option Side) (d : Destination) (j : ℕ) (a : State) → (destination_number d ≡ 8 → ⊥) → register R10 (transmitted_to q d j a) ≡ register R10 a
 r10_transmitted None d j a n = r10_delivered d None j a n
 r10_transmitted (Some side) d j a n = ap (λ (c : Core). get_or c.registers 8 0) (core-with_byte side j a)
 
-port-transmitted : (q : Option Side) (d : Destination) (j : ℕ) (f : Core → Core) (a : State) → OnePort a (with_core f (transmitted_to q d j a))
-port-transmitted None d j f a = port-delivered d None j None f a
-port-transmitted (Some side) d j f a = one-port a _ side (port_number side a) j (written_once side f (λ (c : Core). c) j a refl)
+port_transmitted : (q : Option Side) (d : Destination) (j : ℕ) (f : Core → Core) (a : State) → OnePort a (with_core f (transmitted_to q d j a))
+port_transmitted None d j f a = port_delivered d None j None f a
+port_transmitted (Some side) d j f a = one_port a _ side (port_number side a) j (written_once side f (λ (c : Core). c) j a refl)
 
 own_transmitted : (d : Destination) (j : ℕ) (f : Core → Core) (a : State) → KeepsOwn d None a (with_core f (transmitted d j a))
 own_transmitted (destination.Register r) j f a = tt
@@ -223,11 +223,11 @@ laws_xmit j d a n =
     let next = next_address a.core.pc in
     let r10 = r10_transmitted (whole_port d) d j a n in
     record {
-      spares = registers-jumped (whole_port d) next a (transmitted d j a) (registers-transmitted (whole_port d) d j a);
+      spares = registers_jumped (whole_port d) next a (transmitted d j a) (registers_transmitted (whole_port d) d j a);
       own_bits = own_transmitted d j (to next next) a;
       only_add_sets_r10 = λ e. r10;
       r10_is_a_bit = λ h. subst (λ m. m < 2) (sym r10) h;
-      one-port = port-transmitted (whole_port d) d j (to next next) a;
+      one_port = port_transmitted (whole_port d) d j (to next next) a;
     }
 
 -- instructions that only jump
@@ -238,7 +238,7 @@ laws_jump i p q a s o =
       own_bits = o;
       only_add_sets_r10 = λ e. refl;
       r10_is_a_bit = λ h. h;
-      one-port = no_port a _ (λ side. ports-with_core side (to p q) a);
+      one_port = no_port a _ (λ side. ports-with_core side (to p q) a);
     }
 
 keeps_jumped : (p q : ℕ) (a : State) → KeepsAllButAddresses a (with_core (to p q) a)
@@ -252,16 +252,16 @@ laws_performed (Xec s j) a n = laws_jump (Xec s j) _ _ a (keeps_jumped _ _ a, re
 laws_performed (Jmp m) a n = laws_jump (Jmp m) _ _ a (keeps_jumped _ _ a) tt
 
 -- a refused instruction
-registers-same : (q : Option Side) (a : State) → KeepsRegistersIf q a a
-registers-same None a = tt
-registers-same (Some side) a = refl
+registers_same : (q : Option Side) (a : State) → KeepsRegistersIf q a a
+registers_same None a = tt
+registers_same (Some side) a = refl
 
-spares-same : (i : Instruction) (a : State) → Spares i a a
-spares-same (Alu o s d) a = tt
-spares-same (Xmit j d) a = registers-same (whole_port d) a
-spares-same (Nzt s j) a = keeps_all a
-spares-same (Xec s j) a = (keeps_all a, refl)
-spares-same (Jmp m) a = keeps_all a
+spares_same : (i : Instruction) (a : State) → Spares i a a
+spares_same (Alu o s d) a = tt
+spares_same (Xmit j d) a = registers_same (whole_port d) a
+spares_same (Nzt s j) a = keeps_all a
+spares_same (Xec s j) a = (keeps_all a, refl)
+spares_same (Jmp m) a = keeps_all a
 
 own_same : (d : Destination) (origin : Option Side) (a : State) → KeepsOwn d origin a a
 own_same (destination.Register r) origin a = tt
@@ -277,11 +277,11 @@ own_bits_same (Jmp m) a = tt
 laws_refused : (i : Instruction) (a : State) → InstructionLaws i a a
 laws_refused i a =
     record {
-      spares = spares-same i a;
+      spares = spares_same i a;
       own_bits = own_bits_same i a;
       only_add_sets_r10 = λ e. refl;
       r10_is_a_bit = λ h. h;
-      one-port = no_port a a (λ side. refl);
+      one_port = no_port a a (λ side. refl);
     }
 
 -- what a cycle answers and leaves

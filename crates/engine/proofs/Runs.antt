@@ -6,13 +6,13 @@ use Rattle.engine.specs.Cycles.{cycle_of}
 use Rattle.engine.specs.Runs.{Ran, further, onward, run_of, ahead}
 
 -- the first cycle of a run, and the rest
-run-first : (code : List ℕ) (m : ℕ) (st : State) (r : Result (Unit {0}) EngineFault) (v : State) → r ≡ (cycle_of code false false st).0 → v ≡ (cycle_of code false false st).1 → run_of code (suc m) st ≡ onward (λ u. run_of code m u) r v
-run-first code m st r v e f =
+run_first : (code : List ℕ) (m : ℕ) (st : State) (r : Result (Unit {0}) EngineFault) (v : State) → r ≡ (cycle_of code false false st).0 → v ≡ (cycle_of code false false st).1 → run_of code (suc m) st ≡ onward (λ u. run_of code m u) r v
+run_first code m st r v e f =
     ap (λ (x : Result (Unit {0}) EngineFault). onward (λ u. run_of code m u) x (cycle_of code false false st).1) (sym e)
     ∙ ap (λ (x : State). onward (λ u. run_of code m u) r x) (sym f)
 
-ahead-further : (i : ℕ) (r : Ran) → ahead i (further r) ≡ ahead (i + 1) r
-ahead-further i r =
+ahead_further : (i : ℕ) (r : Ran) → ahead i (further r) ≡ ahead (i + 1) r
+ahead_further i r =
     let e : i + suc r.finished ≡ i + 1 + r.finished = omega arith in
     ap (λ k. record { finished = k; fault = r.fault; after = r.after }) e
 
@@ -23,13 +23,13 @@ module _ (code : List ℕ) (n i : ℕ) (st v : State) (r : Ran) (lt : i < n) (h 
   -- a cycle that is not refused
   pub run_more : Ok tt ≡ (cycle_of code false false st).0 → v ≡ (cycle_of code false false st).1 → r ≡ ahead (i + 1) (run_of code (n - (i + 1)) v)
   run_more e f =
-      h ∙ ap (λ m. ahead i (run_of code m st)) left_over ∙ ap (ahead i) (run-first code (n - (i + 1)) st (Ok tt) v e f) ∙ ahead-further i (run_of code (n - (i + 1)) v)
+      h ∙ ap (λ m. ahead i (run_of code m st)) left_over ∙ ap (ahead i) (run_first code (n - (i + 1)) st (Ok tt) v e f) ∙ ahead_further i (run_of code (n - (i + 1)) v)
 
   -- a refused one ends the run
-  pub run-refused : (g : EngineFault) → Err g ≡ (cycle_of code false false st).0 → v ≡ (cycle_of code false false st).1 → r ≡ record { finished = i; fault = Some g; after = v }
-  run-refused g e f =
+  pub run_refused : (g : EngineFault) → Err g ≡ (cycle_of code false false st).0 → v ≡ (cycle_of code false false st).1 → r ≡ record { finished = i; fault = Some g; after = v }
+  run_refused g e f =
       let z : i + 0 ≡ i = omega arith in
-      h ∙ ap (λ m. ahead i (run_of code m st)) left_over ∙ ap (ahead i) (run-first code (n - (i + 1)) st (Err g) v e f) ∙ ap (λ k. record { finished = k; fault = Some g; after = v }) z
+      h ∙ ap (λ m. ahead i (run_of code m st)) left_over ∙ ap (ahead i) (run_first code (n - (i + 1)) st (Err g) v e f) ∙ ap (λ k. record { finished = k; fault = Some g; after = v }) z
 
 pub run_none : (code : List ℕ) (n : ℕ) (st : State) → run_of code n st ≡ ahead 0 (run_of code (n - 0) st)
 run_none code n st =

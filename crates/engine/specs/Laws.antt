@@ -82,7 +82,7 @@ pub record InstructionLaws (i : Instruction) (a b : State) : Type 0 where
   pub own_bits : KeepsOwnBits i a b
   pub only_add_sets_r10 : adds i ≡ false → register R10 b ≡ register R10 a
   pub r10_is_a_bit : register R10 a < 2 → register R10 b < 2
-  pub one-port : OnePort a b
+  pub one_port : OnePort a b
 
 abbrev pub Runs : List ℕ → Bool → Bool → State → Instruction → Type 0
 Runs code reset halt a i = (reset ≡ false) × ((halt ≡ false) × (meaning (word_at code a.core.ar) ≡ Some i))

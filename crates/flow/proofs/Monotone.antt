@@ -34,23 +34,23 @@ choose_more : (c : Bool) (P Q U V : Bytes) → Inside P U → Inside Q V → Ins
 choose_more true P Q U V f g = f
 choose_more false P Q U V f g = g
 
-pub put-more : (s u : State) (t : ℕ) (P Q : Bytes) → Fits s u → Inside P Q → Fits (put s t P) (put u t Q)
-put-more s u t P Q f h r l = choose_more (eqb r t) P (s r) Q (u r) h (f r l)
+pub put_more : (s u : State) (t : ℕ) (P Q : Bytes) → Fits s u → Inside P Q → Fits (put s t P) (put u t Q)
+put_more s u t P Q f h r l = choose_more (eqb r t) P (s r) Q (u r) h (f r l)
 
-selected-more : (b : Option Side) (s u : State) → Fits s u → Fits (selected b s) (selected b u)
-selected-more None s u f = f
-selected-more (Some b) s u f = put-more s u (unready_part b) Nothing Nothing f (λ k m. m)
+selected_more : (b : Option Side) (s u : State) → Fits s u → Fits (selected b s) (selected b u)
+selected_more None s u f = f
+selected_more (Some b) s u f = put_more s u (unready_part b) Nothing Nothing f (λ k m. m)
 
 pub stored_more : (r : Register) (P Q : Bytes) (s u : State) → Inside P Q → Fits s u → Fits (stored_in r P s) (stored_in r Q u)
-stored_more r P Q s u h f = selected-more (select_side r) _ _ (put-more s u (number_of r) P Q f h)
+stored_more r P Q s u h f = selected_more (select_side r) _ _ (put_more s u (number_of r) P Q f h)
 
-pub delivered-more : (d : Destination) (P Q : Bytes) (s u : State) → Inside P Q → Fits s u → Fits (delivered_in d P s) (delivered_in d Q u)
-delivered-more (destination.Register r) P Q s u h f = stored_more r P Q s u h f
-delivered-more (destination.Field k) P Q s u h f = f
+pub delivered_more : (d : Destination) (P Q : Bytes) (s u : State) → Inside P Q → Fits s u → Fits (delivered_in d P s) (delivered_in d Q u)
+delivered_more (destination.Register r) P Q s u h f = stored_more r P Q s u h f
+delivered_more (destination.Field k) P Q s u h f = f
 
-transmitted-more : (b : Option Side) (d : Destination) (P : Bytes) (s u : State) → Fits s u → Fits (transmitted_in b d P s) (transmitted_in b d P u)
-transmitted-more None d P s u f = delivered-more d P P s u (λ k m. m) f
-transmitted-more (Some b) d P s u f = f
+transmitted_more : (b : Option Side) (d : Destination) (P : Bytes) (s u : State) → Fits s u → Fits (transmitted_in b d P s) (transmitted_in b d P u)
+transmitted_more None d P s u f = delivered_more d P P s u (λ k m. m) f
+transmitted_more (Some b) d P s u f = f
 
 module _ {K : Type 0} (o : Operations K) (l : Lawful o) where
   pub source_more : (x : Source) (s u : State) → Fits s u → Inside (source_bytes o x s) (source_bytes o x u)
@@ -59,21 +59,21 @@ module _ {K : Type 0} (o : Operations K) (l : Lawful o) where
 
   pub result_more : (f : Operation) (P Q U V : Bytes) → Inside P U → Inside Q V → Inside (result_bytes o f P Q) (result_bytes o f U V)
   result_more operation.Move P Q U V g h = g
-  result_more operation.Add P Q U V g h = l.two-inside sum P Q U V g h
-  result_more operation.And P Q U V g h = l.two-inside and P Q U V g h
-  result_more operation.Xor P Q U V g h = l.two-inside xor P Q U V g h
+  result_more operation.Add P Q U V g h = l.two_inside sum P Q U V g h
+  result_more operation.And P Q U V g h = l.two_inside and P Q U V g h
+  result_more operation.Xor P Q U V g h = l.two_inside xor P Q U V g h
 
   pub carried_more : (f : Operation) (P Q : Bytes) (s u : State) → Inside P Q → Fits s u → Fits (carried_in o f P s) (carried_in o f Q u)
   carried_more operation.Move P Q s u h g = g
-  carried_more operation.Add P Q s u h g = put-more s u 8 _ _ g (l.two-inside carry P (s 0) Q (u 0) h (g 0 (omega arith)))
+  carried_more operation.Add P Q s u h g = put_more s u 8 _ _ g (l.two_inside carry P (s 0) Q (u 0) h (g 0 (omega arith)))
   carried_more operation.And P Q s u h g = g
   carried_more operation.Xor P Q s u h g = g
 
   pub after_more : (i : Instruction) (s u : State) → Fits s u → Fits (after o i s) (after o i u)
   after_more (Alu f x d) s u h =
       let from = source_more x s u h in
-      delivered-more d _ _ _ _ (result_more f _ _ _ _ from (h 0 (omega arith))) (carried_more f _ _ s u from h)
-  after_more (Xmit j d) s u h = transmitted-more (whole_port d) d (Only j) s u h
+      delivered_more d _ _ _ _ (result_more f _ _ _ _ from (h 0 (omega arith))) (carried_more f _ _ s u from h)
+  after_more (Xmit j d) s u h = transmitted_more (whole_port d) d (Only j) s u h
   after_more (Nzt x j) s u h = h
   after_more (Xec x j) s u h = h
   after_more (Jmp a) s u h = h

@@ -9,7 +9,7 @@ use Rattle.operands.specs.Bytes.One.{rotate, keep}
 use Rattle.operands.specs.Operations.{Operations, Lawful}
 use Rattle.instructions.specs.declared.field.Field.{Field}
 use Rattle.effects.specs.Arithmetic.{field_bytes}
-use Rattle.effects.proofs.Bytes.{same-ones}
+use Rattle.effects.proofs.Bytes.{same_ones}
 use Rattle.flow.specs.Tables.{marked, seen}
 use Rattle.flow.specs.Entries.{allows}
 use Rattle.flow.specs.declared.entry.Entry.{Entry}
@@ -40,8 +40,8 @@ number_below_16 R16 = omega arith
 number_below_16 R17 = omega arith
 
 module _ {K : Type 0} (o : Operations K) where
-  pub seen-register : (cell : ℕ → K) (left right : Bool) (r : ℕ) → r < 16 → Same (o.has (cell r)) (seen o cell left right r)
-  seen-register cell left right r h = same_then (ltb r 16) (o.has (cell r)) (marked (cond (eqb r 16) left right)) (lt-ltb r 16 h)
+  pub seen_register : (cell : ℕ → K) (left right : Bool) (r : ℕ) → r < 16 → Same (o.has (cell r)) (seen o cell left right r)
+  seen_register cell left right r h = same_then (ltb r 16) (o.has (cell r)) (marked (cond (eqb r 16) left right)) (lt-ltb r 16 h)
 
   pub seen_mark : (cell : ℕ → K) (left right : Bool) (r : ℕ) → 16 ≤ r → Same (marked (cond (eqb r 16) left right)) (seen o cell left right r)
   seen_mark cell left right r h = same_else (ltb r 16) (o.has (cell r)) (marked (cond (eqb r 16) left right)) (le-ltb r 16 h)
@@ -50,10 +50,10 @@ module _ {K : Type 0} (o : Operations K) where
   pub register_has : (e : Entry K) (r : Register) (x : K) → x ≡ get_or e.operands (number_of r) o.some → Same (o.has x) (allows o e (number_of r))
   register_has e r x h =
       subst (λ (y : K). Same (o.has y) (allows o e (number_of r))) (sym h)
-      (seen-register (λ k. get_or e.operands k o.some) e.left e.right (number_of r) (number_below_16 r))
+      (seen_register (λ k. get_or e.operands k o.some) e.left e.right (number_of r) (number_below_16 r))
 
 -- a field of the same bytes
 pub same_field : {K : Type 0} (o : Operations K) (laws : Lawful o) (f : Field) (P Q R : Bytes) → Same P (field_bytes o f Q) → Same Q R → Same P (field_bytes o f R)
 same_field o laws f P Q R p q =
     let turn = rotate (7 - f.bit) in
-    same-ones o laws (keep f.length) P (o.ones turn Q) (o.ones turn R) p (same-ones o laws turn (o.ones turn Q) Q R (λ b m. m, λ b m. m) q)
+    same_ones o laws (keep f.length) P (o.ones turn Q) (o.ones turn R) p (same_ones o laws turn (o.ones turn Q) Q R (λ b m. m, λ b m. m) q)

@@ -46,7 +46,7 @@ FlowsAt o code t p =
 
 pub record Rules {K : Type 0} (o : Operations K) (code : List ℕ) (t : Table K) : Type 0 where
   pub starts : t.entry 0 ≡ true
-  pub allows-start : Fits (start o) (holds o t 0)
+  pub allows_start : Fits (start o) (holds o t 0)
   pub flows : (p : ℕ) → p < words_in code → t.entry p ≡ true → FlowsAt o code t p
 
 abbrev pub Under : {K : Type 0} → Operations K → ℕ → Table K → Table K → Type 0

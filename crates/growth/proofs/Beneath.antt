@@ -13,7 +13,7 @@ use Rattle.flow.specs.Entries.{allows}
 use Rattle.flow.proofs.Monotone.{after_more, next_more, runs_more, fits_then}
 use Rattle.growth.specs.Growth.{JoinIsLeast, Due, Flowed, Sent, Went}
 use Rattle.growth.proofs.Sending.{alike_at, sent_cases}
-use Rattle.growth.proofs.Midway.{taken_up, taken-entry, taken-alike}
+use Rattle.growth.proofs.Midway.{taken_up, taken_entry, taken_alike}
 
 module _ {K : Type 0} (o : Operations K) (l : Lawful o) (code : List ℕ) (u : Table K) (rules : Rules o code u) where
   -- the table lies inside u, and so does the entry e of the word p, which is being sent on
@@ -21,13 +21,13 @@ module _ {K : Type 0} (o : Operations K) (l : Lawful o) (code : List ℕ) (u : T
     pub under : Under o (words_in code) (table_of o status operands) u
     pub from : (u.entry p ≡ true) × Fits (allows o e) (holds o u p)
 
-  pub beneath-start : (p : ℕ) (e : Entry K) (status : List ℕ) (operands : List K) → p < words_in code → p < length status → Due (get_or status p 0) → Alike (allows o e) (holds o (table_of o status operands) p)
+  pub beneath_start : (p : ℕ) (e : Entry K) (status : List ℕ) (operands : List K) → p < words_in code → p < length status → Due (get_or status p 0) → Alike (allows o e) (holds o (table_of o status operands) p)
       → Under o (words_in code) (table_of o status operands) u → Beneath p e (taken_up status p) operands
-  beneath-start p e status operands lp ls due save under =
+  beneath_start p e status operands lp ls due save under =
       record {
         under = λ x h odd.
-            let z = under x h (sym (taken-entry o p status operands ls due x) ∙ odd) in
-            (z.0, fits_then _ _ _ (taken-alike o p status operands ls due x).0 z.1);
+            let z = under x h (sym (taken_entry o p status operands ls due x) ∙ odd) in
+            (z.0, fits_then _ _ _ (taken_alike o p status operands ls due x).0 z.1);
         from = let m = under p lp (eq-eqb _ _ due.1.1) in (m.0, fits_then _ _ _ save.0 m.1);
       }
 
@@ -56,10 +56,10 @@ module _ {K : Type 0} (o : Operations K) (l : Lawful o) (code : List ℕ) (u : T
           from = m.from;
         }
 
-    beneath-sent : (p : ℕ) (e : Entry K) (i : Instruction) (low : ℕ) (target : Option ℕ) (new : Entry K) (status : List ℕ) (operands : List K) (low' : ℕ) (status' : List ℕ) (operands' : List K)
+    beneath_sent : (p : ℕ) (e : Entry K) (i : Instruction) (low : ℕ) (target : Option ℕ) (new : Entry K) (status : List ℕ) (operands : List K) (low' : ℕ) (status' : List ℕ) (operands' : List K)
         → p < words_in code → Runs o code (allows o e) p i → ((q : ℕ) → target ≡ Some q → Next o i (allows o e) p q) → Alike (allows o new) (after o i (allows o e))
         → Sent o joined rank top (words_in code) low target new status operands low' status' operands' → Beneath p e status operands → Beneath p e status' operands'
-    beneath-sent p e i low target new status operands low' status' operands' lp runs next alike s m =
+    beneath_sent p e i low target new status operands low' status' operands' lp runs next alike s m =
         sent_cases o joined rank top (words_in code) low target new status operands low' status' operands' (λ b c. Beneath p e b c)
         (λ none. m)
         (λ q is lt f. beneath_flow p e i q new status operands status' operands' lp lt runs (next q is) alike f m)
@@ -68,5 +68,5 @@ module _ {K : Type 0} (o : Operations K) (l : Lawful o) (code : List ℕ) (u : T
     pub beneath_went : (p : ℕ) (e : Entry K) (i : Instruction) (low : ℕ) (status : List ℕ) (operands : List K) (low' : ℕ) (status' : List ℕ) (operands' : List K)
         → p < words_in code → Runs o code (allows o e) p i → Went o joined rank top (words_in code) p low i e status operands low' status' operands' → Beneath p e status operands → Beneath p e status' operands'
     beneath_went p e i low status operands low' status' operands' lp runs w m =
-        let on = beneath-sent p e i low w.on w.new status operands _ _ _ lp runs (λ q is. inl ((w.goes q).0 is)) w.alike w.sent-on m in
-        beneath-sent p e i _ w.jump w.new _ _ low' status' operands' lp runs (λ q is. inr ((w.hops q).0 is)) w.alike w.sent_off on
+        let on = beneath_sent p e i low w.on w.new status operands _ _ _ lp runs (λ q is. inl ((w.goes q).0 is)) w.alike w.sent_on m in
+        beneath_sent p e i _ w.jump w.new _ _ low' status' operands' lp runs (λ q is. inr ((w.hops q).0 is)) w.alike w.sent_off on

@@ -37,8 +37,8 @@ module _ {K : Type 0} (o : Operations K) (rank : K → ℕ) (top n : ℕ) where
     pub kept : Kept o n status operands status' operands'
     pub lighter : (x : ℕ) → x < n → weight_at o rank top status' operands' x ≤ weight_at o rank top status operands x
 
-  pub eased-same : (status : List ℕ) (operands : List K) → Eased status operands status operands
-  eased-same status operands = record { kept = kept_same o n status operands; lighter = λ x h. omega arith }
+  pub eased_same : (status : List ℕ) (operands : List K) → Eased status operands status operands
+  eased_same status operands = record { kept = kept_same o n status operands; lighter = λ x h. omega arith }
 
   pub eased_then : (s0 : List ℕ) (c0 : List K) (s1 : List ℕ) (c1 : List K) (s2 : List ℕ) (c2 : List K) → Eased s0 c0 s1 c1 → Eased s1 c1 s2 c2 → Eased s0 c0 s2 c2
   eased_then s0 c0 s1 c1 s2 c2 a b =
@@ -68,25 +68,25 @@ module _ {K : Type 0} (o : Operations K) (rank : K → ℕ) (top n : ℕ) where
               (cases_eq x q);
         }
 
-    eased-sent : (low : ℕ) (target : Option ℕ) (e : Entry K) (status : List ℕ) (operands : List K) (low' : ℕ) (status' : List ℕ) (operands' : List K) → Sent o joined rank top n low target e status operands low' status' operands' → Eased status operands status' operands'
-    eased-sent low target e status operands low' status' operands' s =
+    eased_sent : (low : ℕ) (target : Option ℕ) (e : Entry K) (status : List ℕ) (operands : List K) (low' : ℕ) (status' : List ℕ) (operands' : List K) → Sent o joined rank top n low target e status operands low' status' operands' → Eased status operands status' operands'
+    eased_sent low target e status operands low' status' operands' s =
         sent_cases o joined rank top n low target e status operands low' status' operands' (λ b c. Eased status operands b c)
-        (λ none. eased-same status operands)
+        (λ none. eased_same status operands)
         (λ q is lt f. eased_flow q e status operands status' operands' lt f)
         s
 
     pub eased_went : (p low : ℕ) (i : Instruction) (e : Entry K) (status : List ℕ) (operands : List K) (low' : ℕ) (status' : List ℕ) (operands' : List K) → Went o joined rank top n p low i e status operands low' status' operands' → Eased status operands status' operands'
     eased_went p low i e status operands low' status' operands' w =
-        eased_then status operands w.status_between w.operands_between status' operands' (eased-sent low w.on w.new status operands _ _ _ w.sent-on) (eased-sent _ w.jump w.new _ _ low' status' operands' w.sent_off)
+        eased_then status operands w.status_between w.operands_between status' operands' (eased_sent low w.on w.new status operands _ _ _ w.sent_on) (eased_sent _ w.jump w.new _ _ low' status' operands' w.sent_off)
 
   module _ (p : ℕ) (status : List ℕ) (operands : List K) (ls : p < length status) (due : Due (get_or status p 0)) where
-    pub taken-lighter : weight_at o rank top (taken_up status p) operands p < weight_at o rank top status operands p
-    taken-lighter =
+    pub taken_lighter : weight_at o rank top (taken_up status p) operands p < weight_at o rank top status operands p
+    taken_lighter =
         subst (λ b. weight (16 * top + 2) b (ranks_at o rank operands p) < weight_at o rank top status operands p) (sym (taken_here p status ls))
         (weight_drops (16 * top + 2) (get_or status p 0) (ranks_at o rank operands p) due)
 
-    pub taken-eased : p < n → Eased status operands (taken_up status p) operands
-    taken-eased lp =
+    pub taken_eased : p < n → Eased status operands (taken_up status p) operands
+    taken_eased lp =
         record {
           kept = record {
             past = λ x h. (taken_other p status ls x (omega arith), λ r k. refl);
@@ -97,7 +97,7 @@ module _ {K : Type 0} (o : Operations K) (rank : K → ℕ) (top n : ℕ) where
             );
           };
           lighter = λ x h.
-              ⊎_elim (λ z. subst (λ y. weight_at o rank top (taken_up status p) operands y ≤ weight_at o rank top status operands y) (sym z) (omega (arith, taken-lighter)))
+              ⊎_elim (λ z. subst (λ y. weight_at o rank top (taken_up status p) operands y ≤ weight_at o rank top status operands y) (sym z) (omega (arith, taken_lighter)))
               (λ k. subst (λ b. weight (16 * top + 2) b (ranks_at o rank operands x) ≤ weight_at o rank top status operands x) (sym (taken_other p status ls x k)) (omega arith))
               (cases_eq x p);
         }

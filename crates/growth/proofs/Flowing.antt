@@ -7,7 +7,7 @@ use Rattle.flow.specs.declared.entry.Entry.{Entry}
 use Rattle.growth.specs.Measures.{sum_below, marks_in, weight, ranks_at, weight_at}
 use Rattle.growth.specs.Memory.{SameAt, due_status}
 use Rattle.growth.specs.Growth.{Blended, Due, Flowed}
-use Rattle.growth.proofs.Seen.{seen_more, register-inside, left-inside, right-inside}
+use Rattle.growth.proofs.Seen.{seen_more, register_inside, left_inside, right_inside}
 use Rattle.growth.proofs.Sums.{sum_same, sum_bound}
 
 abbrev count : Bool → ℕ
@@ -20,23 +20,23 @@ due true false = (omega arith, (omega arith, refl))
 due false true = (omega arith, (omega arith, refl))
 due false false = (omega arith, (omega arith, refl))
 
-due-left : (a b : Bool) → eqb (due_status a b / 2 % 2) 1 ≡ a
-due-left true true = refl
-due-left true false = refl
-due-left false true = refl
-due-left false false = refl
+due_left : (a b : Bool) → eqb (due_status a b / 2 % 2) 1 ≡ a
+due_left true true = refl
+due_left true false = refl
+due_left false true = refl
+due_left false false = refl
 
-due-right : (a b : Bool) → eqb (due_status a b / 4 % 2) 1 ≡ b
-due-right true true = refl
-due-right true false = refl
-due-right false true = refl
-due-right false false = refl
+due_right : (a b : Bool) → eqb (due_status a b / 4 % 2) 1 ≡ b
+due_right true true = refl
+due_right true false = refl
+due_right false true = refl
+due_right false false = refl
 
-due-marks : (a b : Bool) → marks_in (due_status a b) ≡ count a + count b
-due-marks true true = refl
-due-marks true false = refl
-due-marks false true = refl
-due-marks false false = refl
+due_marks : (a b : Bool) → marks_in (due_status a b) ≡ count a + count b
+due_marks true true = refl
+due_marks true false = refl
+due_marks false true = refl
+due_marks false false = refl
 
 count_or : (m h : Bool) → count h ≤ count (m || h)
 count_or true true = omega arith
@@ -44,8 +44,8 @@ count_or true false = omega arith
 count_or false true = omega arith
 count_or false false = omega arith
 
-count-new : (m h : Bool) → (m && not h) ≡ true → count h < count (m || h)
-count-new m h e =
+count_new : (m h : Bool) → (m && not h) ≡ true → count h < count (m || h)
+count_new m h e =
     let p = and_parts m (not h) e in
     subst (λ z. count h < count (z || h)) (sym p.0) (subst (λ z. count z < 1) (sym (not-true h p.1)) (omega arith))
 
@@ -153,8 +153,8 @@ module _ {K : Type 0} (o : Operations K) (joined : K → K → Bytes) (rank : K 
     had : (m : Bool) → old % 2 ≡ 1 → (entered && m) ≡ m
     had m e = ap (λ b. b && m) (eq-eqb (old % 2) 1 e)
 
-    old-marks : old % 2 ≡ 1 → marks_in old ≡ count left + count right
-    old-marks e =
+    old_marks : old % 2 ≡ 1 → marks_in old ≡ count left + count right
+    old_marks e =
         omega (arith, count_test (old / 2 % 2) (omega arith), count_test (old / 4 % 2) (omega arith), ap count (had (eqb (old / 2 % 2) 1) e), ap count (had (eqb (old / 4 % 2) 1) e))
 
     -- a mark that adds nothing was there
@@ -166,14 +166,14 @@ module _ {K : Type 0} (o : Operations K) (joined : K → K → Bytes) (rank : K 
 
     rises : (x x' : ℕ) → old % 2 ≡ 1 → x ≤ x' → (rising ≡ true) ⊎ (x < x') → x + marks_in old < x' + marks_in made
     rises x x' e le w =
-        let before = old-marks e in
-        let after = due-marks (new.left || left) (new.right || right) in
+        let before = old_marks e in
+        let after = due_marks (new.left || left) (new.right || right) in
         let more_left = count_or new.left left in
         let more-right = count_or new.right right in
         ⊎_elim
         (λ a. ⊎_elim
-        (λ b. ⊎_elim (λ b. absurd (both_ways bare (was_bare e) b)) (λ b. omega (arith, count-new new.left left b)) (or_cases bare (new.left && not left) b))
-        (λ b. omega (arith, count-new new.right right b))
+        (λ b. ⊎_elim (λ b. absurd (both_ways bare (was_bare e) b)) (λ b. omega (arith, count_new new.left left b)) (or_cases bare (new.left && not left) b))
+        (λ b. omega (arith, count_new new.right right b))
         (or_cases (bare || (new.left && not left)) (new.right && not right) a))
         (λ a. omega arith)
         w
@@ -189,8 +189,8 @@ module _ {K : Type 0} (o : Operations K) (joined : K → K → Bytes) (rank : K 
         let h = all_parts x y n b true ex ey en eb parts in
         let now : get_or (set status q v) q 0 ≡ made = get_or-set_same status q v 0 lt ∙ ev in
         let is-due = due (new.left || left) (new.right || right) in
-        let left-now : eqb (get_or (set status q v) q 0 / 2 % 2) 1 ≡ (new.left || left) = ap (λ b. eqb (b / 2 % 2) 1) now ∙ due-left _ _ in
-        let right-now : eqb (get_or (set status q v) q 0 / 4 % 2) 1 ≡ (new.right || right) = ap (λ b. eqb (b / 4 % 2) 1) now ∙ due-right _ _ in
+        let left-now : eqb (get_or (set status q v) q 0 / 2 % 2) 1 ≡ (new.left || left) = ap (λ b. eqb (b / 2 % 2) 1) now ∙ due_left _ _ in
+        let right-now : eqb (get_or (set status q v) q 0 / 4 % 2) 1 ≡ (new.right || right) = ap (λ b. eqb (b / 4 % 2) 1) now ∙ due_right _ _ in
         record {
           rest = λ p n. (get_or-set_other status q p v 0 n, elsewhere true h p n);
           entered = inl (subst Due (sym now) is-due);
@@ -202,9 +202,9 @@ module _ {K : Type 0} (o : Operations K) (joined : K → K → Bytes) (rank : K 
               (λ t. left-now ∙ or_left new.left left t) (λ t. right-now ∙ or_left new.right right t);
           least = λ lub u a b kept sent.
               seen_more o _ _ _ _ _ _
-              (λ r l. (h.each r l).1.0.least lub (u r) (λ f. register-inside o _ u _ _ a b (kept (not_bare f)) r l) (register-inside o _ u _ _ a b sent r l))
-              (λ t. ⊎_elim (λ z. left-inside o _ u _ _ a b sent z) (λ z. let w = and_parts _ _ z in left-inside o _ u _ _ a b (kept (eqb-true _ _ w.0)) w.1) (or_cases new.left left (sym left-now ∙ t)))
-              (λ t. ⊎_elim (λ z. right-inside o _ u _ _ a b sent z) (λ z. let w = and_parts _ _ z in right-inside o _ u _ _ a b (kept (eqb-true _ _ w.0)) w.1) (or_cases new.right right (sym right-now ∙ t)));
+              (λ r l. (h.each r l).1.0.least lub (u r) (λ f. register_inside o _ u _ _ a b (kept (not_bare f)) r l) (register_inside o _ u _ _ a b sent r l))
+              (λ t. ⊎_elim (λ z. left_inside o _ u _ _ a b sent z) (λ z. let w = and_parts _ _ z in left_inside o _ u _ _ a b (kept (eqb-true _ _ w.0)) w.1) (or_cases new.left left (sym left-now ∙ t)))
+              (λ t. ⊎_elim (λ z. right_inside o _ u _ _ a b sent z) (λ z. let w = and_parts _ _ z in right_inside o _ u _ _ a b (kept (eqb-true _ _ w.0)) w.1) (or_cases new.right right (sym right-now ∙ t)));
           lighter =
               subst (λ b. weight (16 * top + 2) b (ranks_at o rank operands' q) ≤ weight_at o rank top status operands q) (sym now)
               (weight_falls (16 * top + 2) old made (ranks_at o rank operands q) (ranks_at o rank operands' q) is-due.1.1 is-due.1.0
@@ -226,8 +226,8 @@ module _ {K : Type 0} (o : Operations K) (joined : K → K → Bytes) (rank : K 
           second = seen_more o _ _ _ _ _ _ (λ r l. (h.each r l).1.0.second) (no_new new.left (eqb (old / 2 % 2) 1) (or_parts _ _ s.0).1) (no_new new.right (eqb (old / 4 % 2) 1) s.1);
           least = λ lub u a b kept sent.
               seen_more o _ _ _ _ _ _
-              (λ r l. (h.each r l).1.0.least lub (u r) (λ f. register-inside o _ u _ _ a b (kept odd) r l) (register-inside o _ u _ _ a b sent r l))
-              (λ t. left-inside o _ u _ _ a b (kept odd) t) (λ t. right-inside o _ u _ _ a b (kept odd) t);
+              (λ r l. (h.each r l).1.0.least lub (u r) (λ f. register_inside o _ u _ _ a b (kept odd) r l) (register_inside o _ u _ _ a b sent r l))
+              (λ t. left_inside o _ u _ _ a b (kept odd) t) (λ t. right_inside o _ u _ _ a b (kept odd) t);
           lighter =
               let e : ranks_at o rank operands' q ≡ ranks_at o rank operands q = sum_same 16 (λ r. rank (at operands' (16 * q + r))) (λ r. rank (at operands (16 * q + r))) (λ r l. ap rank (same r l)) in
               subst (λ z. weight (16 * top + 2) old z ≤ weight_at o rank top status operands q) (sym e) (omega arith);

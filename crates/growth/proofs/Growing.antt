@@ -22,14 +22,14 @@ module _ {K : Type 0} (o : Operations K) (joined : K → K → Bytes) (code : Li
       record {
         tidy = λ x h. ⊎_elim (λ a. inr (a.1.1, a.1.0)) (λ a. inl (a.0 ∙ zeros x h)) (changed x);
         starts = eq-eqb _ _ (flowed_odd o joined rank top 0 new status operands status' operands' f);
-        allows-start = fits_then _ _ _ alike.1 f.second;
+        allows_start = fits_then _ _ _ alike.1 f.second;
         done = λ x h odd k. ⊎_elim (λ a. absurd (omega (arith, a.0))) (λ a. absurd (omega (arith, zeros x h, ap (λ b. b % 2) a.0))) (changed x);
         least = λ lub u rules x h odd.
             ⊎_elim
             (λ z.
             subst (λ y. (u.entry y ≡ true) × Fits (holds o (table_of o status' operands') y) (holds o u y)) (sym z) (
               rules.starts,
-              f.least lub (u.cell 0) (u.left 0) (u.right 0) (λ was. absurd (omega (arith, zeros 0 full))) (fits_then _ _ _ alike.0 rules.allows-start),
+              f.least lub (u.cell 0) (u.left 0) (u.right 0) (λ was. absurd (omega (arith, zeros 0 full))) (fits_then _ _ _ alike.0 rules.allows_start),
             ))
             (λ n. let a = f.rest x n in absurd (omega (arith, eqb-true _ _ odd, a.0, zeros x h)))
             (cases_eq x 0);
@@ -45,7 +45,7 @@ module _ {K : Type 0} (o : Operations K) (joined : K → K → Bytes) (code : Li
         tidy = settled;
         rules = record {
           starts = g.starts;
-          allows-start = g.allows-start;
+          allows_start = g.allows_start;
           flows = λ p h odd. g.done p h (eqb-true _ _ odd) (quiet p h);
         };
         least = g.least;

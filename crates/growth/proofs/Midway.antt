@@ -14,7 +14,7 @@ use Rattle.flow.proofs.Monotone.{after_more, next_more, runs_more, fits_then}
 use Rattle.growth.specs.Memory.{Tidy}
 use Rattle.growth.specs.Growth.{Due, Flowed, Sent, Went, Growing}
 use Rattle.growth.proofs.Seen.{seen_same}
-use Rattle.growth.proofs.Sending.{alike_at, flowed_odd, flowed-under, due_or_same, sent_cases}
+use Rattle.growth.proofs.Sending.{alike_at, flowed_odd, flowed_under, due_or_same, sent_cases}
 
 -- the marks of a due status byte without its 8
 pub left_low : (b : ℕ) → 8 ≤ b → b < 16 → b % 8 / 2 % 2 ≡ b / 2 % 2
@@ -30,8 +30,8 @@ right_low b h l =
 abbrev pub taken_up : List ℕ → ℕ → List ℕ
 taken_up status p = set status p (get_or status p 0 % 8)
 
-pub tidy-due : (b : ℕ) → Tidy b → 8 ≤ b → Due b
-tidy-due b tidy h = ⊎_elim (λ z. absurd (omega arith)) (λ z. (h, (z.1, z.0))) tidy
+pub tidy_due : (b : ℕ) → Tidy b → 8 ≤ b → Due b
+tidy_due b tidy h = ⊎_elim (λ z. absurd (omega arith)) (λ z. (h, (z.1, z.0))) tidy
 
 module _ (p : ℕ) (status : List ℕ) (ls : p < length status) where
   pub taken_here : get_or (taken_up status p) p 0 ≡ get_or status p 0 % 8
@@ -50,11 +50,11 @@ module _ (p : ℕ) (status : List ℕ) (ls : p < length status) where
 module _ {K : Type 0} (o : Operations K) where
   -- taking up a due word changes nothing in the table
   module _ (p : ℕ) (status : List ℕ) (operands : List K) (ls : p < length status) (due : Due (get_or status p 0)) where
-    pub taken-entry : (x : ℕ) → (table_of o (taken_up status p) operands).entry x ≡ (table_of o status operands).entry x
-    taken-entry = taken_test p status ls (λ b. b % 2) (omega arith)
+    pub taken_entry : (x : ℕ) → (table_of o (taken_up status p) operands).entry x ≡ (table_of o status operands).entry x
+    taken_entry = taken_test p status ls (λ b. b % 2) (omega arith)
 
-    pub taken-alike : (x : ℕ) → Alike (holds o (table_of o (taken_up status p) operands) x) (holds o (table_of o status operands) x)
-    taken-alike x =
+    pub taken_alike : (x : ℕ) → Alike (holds o (table_of o (taken_up status p) operands) x) (holds o (table_of o status operands) x)
+    taken_alike x =
         let left = taken_test p status ls (λ b. b / 2 % 2) (left_low _ due.0 due.1.0) x in
         let right = taken_test p status ls (λ b. b / 4 % 2) (right_low _ due.0 due.1.0) x in
         (seen_same o _ _ _ _ _ _ (λ r h. refl) left right, seen_same o _ _ _ _ _ _ (λ r h. refl) (sym left) (sym right))
@@ -71,7 +71,7 @@ module _ {K : Type 0} (o : Operations K) where
     pub record Midway (p : ℕ) (e : Entry K) (Done : Instruction → ℕ → Type 0) (status : List ℕ) (operands : List K) : Type 0 where
       pub tidy : (x : ℕ) → x < words_in code → Tidy (get_or status x 0)
       pub starts : (table_of o status operands).entry 0 ≡ true
-      pub allows-start : Fits (start o) (holds o (table_of o status operands) 0)
+      pub allows_start : Fits (start o) (holds o (table_of o status operands) 0)
       pub done : (x : ℕ) → x < words_in code → x ≢ p → get_or status x 0 % 2 ≡ 1 → get_or status x 0 < 8 → FlowsAt o code (table_of o status operands) x
       pub here : (8 ≤ get_or status p 0) ⊎ Fits (holds o (table_of o status operands) p) (allows o e)
       pub sent : (i : Instruction) (q : ℕ) → q < words_in code → Done i q → ((table_of o status operands).entry q ≡ true) × Fits (after o i (allows o e)) (holds o (table_of o status operands) q)
@@ -82,17 +82,17 @@ module _ {K : Type 0} (o : Operations K) where
         record {
           tidy = m.tidy;
           starts = m.starts;
-          allows-start = m.allows-start;
+          allows_start = m.allows_start;
           done = m.done;
           here = m.here;
           sent = λ j x h d. m.sent j x h (f j x h d);
         }
 
     -- sent wherever it goes, the word is done
-    pub midway-done : (p : ℕ) (e : Entry K) (Done : Instruction → ℕ → Type 0) (status : List ℕ) (operands : List K)
+    pub midway_done : (p : ℕ) (e : Entry K) (Done : Instruction → ℕ → Type 0) (status : List ℕ) (operands : List K)
         → ((i : Instruction) (q : ℕ) → Runs o code (allows o e) p i → Next o i (allows o e) p q → Done i q) → Midway p e Done status operands
         → (x : ℕ) → x < words_in code → get_or status x 0 % 2 ≡ 1 → get_or status x 0 < 8 → FlowsAt o code (table_of o status operands) x
-    midway-done p e Done status operands every m x h odd k =
+    midway_done p e Done status operands every m x h odd k =
         ⊎_elim
         (λ z.
         let low : get_or status p 0 < 8 = subst (λ y. get_or status y 0 < 8) z k in
@@ -111,8 +111,8 @@ module _ {K : Type 0} (o : Operations K) where
       midway_start p e status operands ls due save g =
           let t = table_of o status operands in
           let t' = table_of o (taken_up status p) operands in
-          let entry = taken-entry p status operands ls due in
-          let alike = taken-alike p status operands ls due in
+          let entry = taken_entry p status operands ls due in
+          let alike = taken_alike p status operands ls due in
           let here = taken_here p status ls in
           let other = taken_other p status ls in
           let under : Under o (words_in code) t t' = λ x h odd. (entry x ∙ odd, (alike x).1) in
@@ -121,7 +121,7 @@ module _ {K : Type 0} (o : Operations K) where
                 ⊎_elim (λ z. subst (λ y. Tidy (get_or (taken_up status p) y 0)) (sym z) (subst Tidy (sym here) (inr (omega arith, omega arith))))
                 (λ n. subst Tidy (sym (other x n)) (g.tidy x h)) (cases_eq x p);
             starts = entry 0 ∙ g.starts;
-            allows-start = fits_then _ _ _ g.allows-start (alike 0).1;
+            allows_start = fits_then _ _ _ g.allows_start (alike 0).1;
             done = λ x h n odd k. flows_grow t t' x (alike x).0 under (g.done x h (sym (ap (λ b. b % 2) (other x n)) ∙ odd) (omega (arith, other x n)));
             here = inr (fits_then _ _ _ (alike p).0 save.1);
             sent = λ i q h d. absurd d;
@@ -134,13 +134,13 @@ module _ {K : Type 0} (o : Operations K) where
         midway_flow p e Done i q new status operands status' operands' full alike f m =
             let t = table_of o status operands in
             let t' = table_of o status' operands' in
-            let under = flowed-under o joined rank top q new status operands status' operands' f (words_in code) in
+            let under = flowed_under o joined rank top q new status operands status' operands' f (words_in code) in
             let changed = due_or_same o joined rank top q new status operands status' operands' f in
             let same = alike_at o status operands status' operands' in
             record {
               tidy = λ x h. ⊎_elim (λ a. inr (a.1.1, a.1.0)) (λ a. subst Tidy (sym a.0) (m.tidy x h)) (changed x);
               starts = (under 0 full m.starts).0;
-              allows-start = fits_then _ _ _ m.allows-start (under 0 full m.starts).1;
+              allows_start = fits_then _ _ _ m.allows_start (under 0 full m.starts).1;
               done = λ x h n odd k.
                   ⊎_elim (λ a. absurd (omega (arith, a.0)))
                   (λ a. flows_grow t t' x (same x a.0 a.1).0 under (m.done x h n (sym (ap (λ b. b % 2) a.0) ∙ odd) (omega (arith, a.0))))
@@ -156,10 +156,10 @@ module _ {K : Type 0} (o : Operations K) where
                   d;
             }
 
-        midway-sent : (p : ℕ) (e : Entry K) (Done : Instruction → ℕ → Type 0) (i : Instruction) (low : ℕ) (target : Option ℕ) (new : Entry K) (status : List ℕ) (operands : List K) (low' : ℕ) (status' : List ℕ) (operands' : List K)
+        midway_sent : (p : ℕ) (e : Entry K) (Done : Instruction → ℕ → Type 0) (i : Instruction) (low : ℕ) (target : Option ℕ) (new : Entry K) (status : List ℕ) (operands : List K) (low' : ℕ) (status' : List ℕ) (operands' : List K)
             → Alike (allows o new) (after o i (allows o e)) → Sent o joined rank top (words_in code) low target new status operands low' status' operands'
             → Midway p e Done status operands → Midway p e (λ j x. Done j x ⊎ ((j ≡ i) × (target ≡ Some x))) status' operands'
-        midway-sent p e Done i low target new status operands low' status' operands' alike s m =
+        midway_sent p e Done i low target new status operands low' status' operands' alike s m =
             sent_cases o joined rank top (words_in code) low target new status operands low' status' operands' (λ b c. Midway p e (λ j x. Done j x ⊎ ((j ≡ i) × (target ≡ Some x))) b c)
             (λ none. midway_as p e Done _ status operands (λ j x h d. ⊎_elim (λ a. a) (λ a. absurd (none x a.1 h)) d) m)
             (λ q is lt f.
@@ -172,8 +172,8 @@ module _ {K : Type 0} (o : Operations K) where
             → Went o joined rank top (words_in code) p low i e status operands low' status' operands'
             → Midway p e Done status operands → Midway p e (λ j x. Done j x ⊎ ((j ≡ i) × Next o i (allows o e) p x)) status' operands'
         midway_went p e Done i low status operands low' status' operands' w m =
-            let on = midway-sent p e Done i low w.on w.new status operands _ _ _ w.alike w.sent-on m in
-            let off = midway-sent p e _ i _ w.jump w.new _ _ low' status' operands' w.alike w.sent_off on in
+            let on = midway_sent p e Done i low w.on w.new status operands _ _ _ w.alike w.sent_on m in
+            let off = midway_sent p e _ i _ w.jump w.new _ _ low' status' operands' w.alike w.sent_off on in
             midway_as p e _ _ status' operands'
             (λ j x h d. ⊎_elim (λ a. inl (inl a)) (λ a. ⊎_elim (λ b. inl (inr (a.0, (w.goes x).1 b))) (λ b. inr (a.0, (w.hops x).1 b)) a.1) d)
             off

@@ -23,8 +23,8 @@ module _ {K : Type 0} (o : Operations K) where
       pub flowed_odd : get_or status' q 0 % 2 ≡ 1
       flowed_odd = ⊎_elim (λ a. a.1.1) (λ a. ap (λ b. b % 2) a.0 ∙ a.1.0) f.entered
 
-      pub flowed-under : (n : ℕ) → Under o n (table_of o status operands) (table_of o status' operands')
-      flowed-under n x lt odd =
+      pub flowed_under : (n : ℕ) → Under o n (table_of o status operands) (table_of o status' operands')
+      flowed_under n x lt odd =
           ⊎_elim
           (λ z.
           let was : get_or status q 0 % 2 ≡ 1 = subst (λ y. get_or status y 0 % 2 ≡ 1) z (eqb-true _ _ odd) in
@@ -62,9 +62,9 @@ module _ {K : Type 0} (o : Operations K) where
             (λ far. same (λ x z h. let y : q ≡ x = cc in omega arith))
             (cases_lt q n)
 
-    pub sent-flowed : (n low : ℕ) (target : Option ℕ) (e : Entry K) (status : List ℕ) (operands : List K) (low' : ℕ) (status' : List ℕ) (operands' : List K) (q : ℕ) → target ≡ Some q → q < n → low' ≤ low → low' ≤ q
+    pub sent_flowed : (n low : ℕ) (target : Option ℕ) (e : Entry K) (status : List ℕ) (operands : List K) (low' : ℕ) (status' : List ℕ) (operands' : List K) (q : ℕ) → target ≡ Some q → q < n → low' ≤ low → low' ≤ q
         → Flowed o joined rank top q e status operands status' operands' → Sent o joined rank top n low target e status operands low' status' operands'
-    sent-flowed n low target e status operands low' status' operands' q is lt under below f =
+    sent_flowed n low target e status operands low' status' operands' q is lt under below f =
         record {
           flowed = λ x z h. let y : q ≡ x = cc in subst (λ k. Flowed o joined rank top k e status operands status' operands') y f;
           still = λ none. absurd (none q is lt);

@@ -14,9 +14,9 @@ use Rattle.flow.specs.Entries.{allows}
 use Rattle.flow.proofs.Spans.{reaches_within}
 use Rattle.growth.specs.Memory.{Quiet}
 use Rattle.growth.specs.Growth.{JoinIsLeast, RunsAs, Due, Went, Growing}
-use Rattle.growth.proofs.Midway.{Midway, midway_start, midway_as, midway_went, midway-done, taken_up, taken_other}
-use Rattle.growth.proofs.Beneath.{Beneath, beneath-start, beneath_went}
-use Rattle.growth.proofs.Easing.{Eased, eased-same, eased_then, eased_went}
+use Rattle.growth.proofs.Midway.{Midway, midway_start, midway_as, midway_went, midway_done, taken_up, taken_other}
+use Rattle.growth.proofs.Beneath.{Beneath, beneath_start, beneath_went}
+use Rattle.growth.proofs.Easing.{Eased, eased_same, eased_then, eased_went}
 
 module _ {K : Type 0} (o : Operations K) where
   -- the words that run at p stand in the span of the instruction there
@@ -61,7 +61,7 @@ module _ {K : Type 0} (o : Operations K) (l : Lawful o) (joined : K → K → By
           midway = midway_as o l code p e _ (Sofar a') status' operands' wide (midway_went o l code joined rank top p e (Sofar a) i low status operands low' status' operands' w m.midway);
           beneath = λ lub u rules. beneath_went o l code u rules joined lub rank top p e i low status operands low' status' operands' lp (a, runs) w (m.beneath lub u rules);
           eased = eased_then o rank top (words_in code) s1 c1 status operands status' operands' m.eased (eased_went o rank top (words_in code) joined p low i e status operands low' status' operands' w);
-          quiet = w.sent_off.quiet (w.sent-on.quiet m.quiet);
+          quiet = w.sent_off.quiet (w.sent_on.quiet m.quiet);
         }
 
     pub stepping_skip : (a a' low : ℕ) (status : List ℕ) (operands : List K) → a' ≡ a + 1 → ((j : Instruction) → RunsAs o code (allows o e) p a j → ⊥) → Stepping a low status operands → Stepping a' low status operands
@@ -83,8 +83,8 @@ module _ {K : Type 0} (o : Operations K) (l : Lawful o) (joined : K → K → By
         record {
           tidy = m.midway.tidy;
           starts = m.midway.starts;
-          allows-start = m.midway.allows-start;
-          done = midway-done o l code p e (Sofar a) status operands (λ i q runs next. (runs.0, (below runs.0 i runs.1, (runs.1, next)))) m.midway;
+          allows_start = m.midway.allows_start;
+          done = midway_done o l code p e (Sofar a) status operands (λ i q runs next. (runs.0, (below runs.0 i runs.1, (runs.1, next)))) m.midway;
           least = λ lub u rules. (m.beneath lub u rules).under;
         }
 
@@ -93,7 +93,7 @@ module _ {K : Type 0} (o : Operations K) (l : Lawful o) (joined : K → K → By
   stepping_start a status operands lp ls due save quiet g above =
       record {
         midway = midway_as o l code p e (λ _ _. ⊥) (Sofar a) (taken_up status p) operands (λ i q h d. let k = above d.0 i d.1.1.0 in omega (arith, d.1.0)) (midway_start o l code joined p e status operands ls due save g);
-        beneath = λ lub u rules. beneath-start o l code u rules p e status operands lp ls due save (g.least lub u rules);
-        eased = eased-same o rank top (words_in code) (taken_up status p) operands;
+        beneath = λ lub u rules. beneath_start o l code u rules p e status operands lp ls due save (g.least lub u rules);
+        eased = eased_same o rank top (words_in code) (taken_up status p) operands;
         quiet = λ k h. subst (λ b. b < 8) (sym (taken_other p status ls k (omega arith))) (quiet k h);
       }

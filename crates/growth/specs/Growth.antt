@@ -67,13 +67,13 @@ pub record Went {K : Type 0} (o : Operations K) (joined : K → K → Bytes) (ra
   pub low_between : ℕ
   pub status_between : List ℕ
   pub operands_between : List K
-  pub sent-on : Sent o joined rank top n low on new status operands low_between status_between operands_between
+  pub sent_on : Sent o joined rank top n low on new status operands low_between status_between operands_between
   pub sent_off : Sent o joined rank top n low_between jump new status_between operands_between low' status' operands'
 
 pub record Growing {K : Type 0} (o : Operations K) (joined : K → K → Bytes) (code : List ℕ) (status : List ℕ) (operands : List K) : Type 0 where
   pub tidy : (p : ℕ) → p < words_in code → Tidy (slice_index status p)
   pub starts : (table_of o status operands).entry 0 ≡ true
-  pub allows-start : Fits (start o) (holds o (table_of o status operands) 0)
+  pub allows_start : Fits (start o) (holds o (table_of o status operands) 0)
   pub done : (p : ℕ) → p < words_in code → slice_index status p % 2 ≡ 1 → slice_index status p < 8 → FlowsAt o code (table_of o status operands) p
   pub least : JoinIsLeast o joined → (u : Table K) → Rules o code u → Under o (words_in code) (table_of o status operands) u
 

@@ -14,24 +14,24 @@ use Rattle.image.specs.Reading.{Faultless, IsImage, Granted, Withheld}
 use Rattle.image.proofs.Masks.{is_mask_mask_of}
 
 -- keys rise from entry to entry
-key-rises : (file : List ℕ) → Faultless file → (j d : ℕ) → suc (j + d) < grant_count file → key_at file (entry_place file j) < key_at file (entry_place file (suc (j + d)))
-key-rises file faultless j zero below =
+key_rises : (file : List ℕ) → Faultless file → (j d : ℕ) → suc (j + d) < grant_count file → key_at file (entry_place file j) < key_at file (entry_place file (suc (j + d)))
+key_rises file faultless j zero below =
     let no : key_at file (entry_place file (suc j)) ≤ key_at file (entry_place file j) → ⊥ = λ h. faultless (Order (entry_place file (suc j))) (j, omega arith, refl, h) in
     grind arith
-key-rises file faultless j (suc d) below =
+key_rises file faultless j (suc d) below =
     let k = suc (j + d) in
-    let rises : key_at file (entry_place file j) < key_at file (entry_place file k) = key-rises file faultless j d (omega arith) in
+    let rises : key_at file (entry_place file j) < key_at file (entry_place file k) = key_rises file faultless j d (omega arith) in
     let no : key_at file (entry_place file (suc k)) ≤ key_at file (entry_place file k) → ⊥ = λ h. faultless (Order (entry_place file (suc k))) (k, omega arith, refl, h) in
     grind arith
 
 key_lt : (file : List ℕ) → Faultless file → (j k : ℕ) → j < k → k < grant_count file → key_at file (entry_place file j) < key_at file (entry_place file k)
 key_lt file faultless j k h below =
     let at : suc (j + (k - suc j)) ≡ k = omega arith in
-    subst (λ n. key_at file (entry_place file j) < key_at file (entry_place file n)) at (key-rises file faultless j (k - suc j) (omega arith))
+    subst (λ n. key_at file (entry_place file j) < key_at file (entry_place file n)) at (key_rises file faultless j (k - suc j) (omega arith))
 
 -- so no two entries have one key
-entry-by-key : (file : List ℕ) → Faultless file → (j k : ℕ) → j < grant_count file → k < grant_count file → key_at file (entry_place file j) ≡ key_at file (entry_place file k) → j ≡ k
-entry-by-key file faultless j k hj hk same =
+entry_by_key : (file : List ℕ) → Faultless file → (j k : ℕ) → j < grant_count file → k < grant_count file → key_at file (entry_place file j) ≡ key_at file (entry_place file k) → j ≡ k
+entry_by_key file faultless j k hj hk same =
     let up : j < k → ⊥ = λ h. omega (arith, key_lt file faultless j k h hk) in
     let down : k < j → ⊥ = λ h. omega (arith, key_lt file faultless k j h hj) in
     omega arith
@@ -55,29 +55,29 @@ copied_part file grants part k h =
     }
 
 -- the entry that gives a port its mask is the one that names it
-granted-by-mask : (file grants : List ℕ) → Faultless file → ((k : ℕ) → k < grant_count file → Copied file grants k) → length grants ≡ 4 * grant_count file → (k : ℕ) → k < grant_count file → (s : Side) → bank_number s ≡ bank_at file (entry_place file k) → (m : ℕ) → IsMask grants s (port_at file (entry_place file k)) m → m ≡ mask_at file (entry_place file k)
-granted-by-mask file grants faultless copied size k below s bank m (inl (j, hj, named, none, is)) =
+granted_by_mask : (file grants : List ℕ) → Faultless file → ((k : ℕ) → k < grant_count file → Copied file grants k) → length grants ≡ 4 * grant_count file → (k : ℕ) → k < grant_count file → (s : Side) → bank_number s ≡ bank_at file (entry_place file k) → (m : ℕ) → IsMask grants s (port_at file (entry_place file k)) m → m ≡ mask_at file (entry_place file k)
+granted_by_mask file grants faultless copied size k below s bank m (inl (j, hj, named, none, is)) =
     let here : Copied file grants j = copied j (omega arith) in
-    let same : j ≡ k = entry-by-key file faultless j k (omega arith) below (grind (arith, nat_tests)) in
+    let same : j ≡ k = entry_by_key file faultless j k (omega arith) below (grind (arith, nat_tests)) in
     is ∙ here.mask ∙ ap (λ n. mask_at file (entry_place file n)) same
-granted-by-mask file grants faultless copied size k below s bank m (inr (none, is)) =
+granted_by_mask file grants faultless copied size k below s bank m (inr (none, is)) =
     let here : Copied file grants k = copied k below in
     let no = none k (omega arith) (omega arith) in
     grind (arith, nat_tests)
 
-withheld-by-mask : (file grants : List ℕ) → ((k : ℕ) → k < grant_count file → Copied file grants k) → length grants ≡ 4 * grant_count file → (s : Side) (port : ℕ) → ((k : ℕ) → k < grant_count file → bank_number s ≡ bank_at file (entry_place file k) → port ≡ port_at file (entry_place file k) → ⊥) → (m : ℕ) → IsMask grants s port m → m ≡ 0
-withheld-by-mask file grants copied size s port nowhere m (inl (j, hj, named, none, is)) =
+withheld_by_mask : (file grants : List ℕ) → ((k : ℕ) → k < grant_count file → Copied file grants k) → length grants ≡ 4 * grant_count file → (s : Side) (port : ℕ) → ((k : ℕ) → k < grant_count file → bank_number s ≡ bank_at file (entry_place file k) → port ≡ port_at file (entry_place file k) → ⊥) → (m : ℕ) → IsMask grants s port m → m ≡ 0
+withheld_by_mask file grants copied size s port nowhere m (inl (j, hj, named, none, is)) =
     let here : Copied file grants j = copied j (omega arith) in
     absurd (nowhere j (omega arith) (grind (arith, nat_tests)) (grind (arith, nat_tests)))
-withheld-by-mask file grants copied size s port nowhere m (inr (none, is)) = is
+withheld_by_mask file grants copied size s port nowhere m (inr (none, is)) = is
 
 masks_from_part : (file : List ℕ) (part : Part) → Faultless file → IsGrants file (grant_start file) (4 * grant_count file) part → Granted file (part_bytes part) × Withheld file (part_bytes part)
 masks_from_part file (Code bytes place) faultless h = absurd h
 masks_from_part file (Grants bytes place) faultless (at, part, size) =
     let grants = bytes.now in
     let copied = copied_part file grants part in (
-      (λ k below s bank. granted-by-mask file grants faultless copied size k below s bank _ (is_mask_mask_of grants s (port_at file (entry_place file k)))),
-      (λ s port nowhere. withheld-by-mask file grants copied size s port nowhere _ (is_mask_mask_of grants s port)),
+      (λ k below s bank. granted_by_mask file grants faultless copied size k below s bank _ (is_mask_mask_of grants s (port_at file (entry_place file k)))),
+      (λ s port nowhere. withheld_by_mask file grants copied size s port nowhere _ (is_mask_mask_of grants s port)),
     )
 
 pub is_image_from_parts : (file : List ℕ) (image : Image) → Faultless file → IsCode file (code_start file) (2 * word_count file) image.code → IsGrants file (grant_start file) (4 * grant_count file) image.grants → IsImage file image

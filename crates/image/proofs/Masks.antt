@@ -7,9 +7,9 @@ pub mask_among_none : (g : List ℕ) (b p : ℕ) → mask_among g b p 0 ≡ 0
 unfolding mask_among
 mask_among_none g b p = refl
 
-pub mask_among-more : (g : List ℕ) (b p k : ℕ) → mask_among g b p (k + 1) ≡ cond (names g k b p) (entry_mask g k) (mask_among g b p k)
+pub mask_among_more : (g : List ℕ) (b p k : ℕ) → mask_among g b p (k + 1) ≡ cond (names g k b p) (entry_mask g k) (mask_among g b p k)
 unfolding mask_among
-mask_among-more g b p k = rw (add-one k)
+mask_among_more g b p k = rw (add-one k)
 
 -- no entry from one place up to another is for the bank and the port
 abbrev NoneUpTo : List ℕ → ℕ → ℕ → ℕ → ℕ → Type 0

@@ -15,9 +15,9 @@ pub least_key_none : (file : List ℕ) → least_key file 0 ≡ 0
 unfolding least_key
 least_key_none file = refl
 
-pub least_key-more : (file : List ℕ) (k : ℕ) → least_key file (k + 1) ≡ key_at file (entry_place file k) + 1
+pub least_key_more : (file : List ℕ) (k : ℕ) → least_key file (k + 1) ≡ key_at file (entry_place file k) + 1
 unfolding least_key
-least_key-more file k = rw (add-one k)
+least_key_more file k = rw (add-one k)
 
 -- the first k entries have no fault
 pub record Tried (file : List ℕ) (k least : ℕ) : Type 0 where
@@ -35,39 +35,39 @@ grant_end_le_length file clear =
 pub tried_none : (file : List ℕ) → Clear file 8 → Tried file 0 0
 tried_none file clear = record { clear = λ g h lt. grind arith; key = sym (least_key_none file) }
 
-clear-order : (file : List ℕ) (k : ℕ) → Clear file (8 + 2 * entry_place file k) → IsSound file (entry_place file k) → Clear file (9 + 2 * entry_place file k)
-clear-order file k clear sound g h lt = grind arith
+clear_order : (file : List ℕ) (k : ℕ) → Clear file (8 + 2 * entry_place file k) → IsSound file (entry_place file k) → Clear file (9 + 2 * entry_place file k)
+clear_order file k clear sound g h lt = grind arith
 
-clear-more : (file : List ℕ) (k : ℕ) → Clear file (9 + 2 * entry_place file k) → least_key file k ≤ key_at file (entry_place file k) → Clear file (8 + 2 * entry_place file (k + 1))
+clear_more : (file : List ℕ) (k : ℕ) → Clear file (9 + 2 * entry_place file k) → least_key file k ≤ key_at file (entry_place file k) → Clear file (8 + 2 * entry_place file (k + 1))
 unfolding least_key
-clear-more file zero clear rises g h lt = grind arith
-clear-more file (suc j) clear rises g h lt = grind arith
+clear_more file zero clear rises g h lt = grind arith
+clear_more file (suc j) clear rises g h lt = grind arith
 
 tried_key : (file : List ℕ) (k least key : ℕ) → Tried file k least → IsKey file (entry_place file k) least key → Tried file (k + 1) (key + 1)
 tried_key file k least key tried h =
     record {
-      clear = clear-more file k (clear-order file k tried.clear h.sound) (omega (arith, tried.key, h));
-      key = omega (arith, least_key-more file k, h);
+      clear = clear_more file k (clear_order file k tried.clear h.sound) (omega (arith, tried.key, h));
+      key = omega (arith, least_key_more file k, h);
     }
 
 pub tried_more : (file : List ℕ) (k least p key : ℕ) → p ≡ entry_place file k → Tried file k least → IsKey file p least key → Tried file (k + 1) (key + 1)
 tried_more file k least p key at tried h = tried_key file k least key tried (subst (λ q. IsKey file q least key) at h)
 
 -- an entry that does not follow the one before it
-first-order : (file : List ℕ) (k least : ℕ) → k < grant_count file → Tried file k least → IsSound file (entry_place file k) → key_at file (entry_place file k) < least → First file (Order (entry_place file k))
+first_order : (file : List ℕ) (k least : ℕ) → k < grant_count file → Tried file k least → IsSound file (entry_place file k) → key_at file (entry_place file k) < least → First file (Order (entry_place file k))
 unfolding least_key
-first-order file zero least below tried sound falls = absurd (omega (arith, tried.key))
-first-order file (suc j) least below tried sound falls =
-    ((j, below, refl, omega (arith, tried.key)), clear-order file (suc j) tried.clear sound)
+first_order file zero least below tried sound falls = absurd (omega (arith, tried.key))
+first_order file (suc j) least below tried sound falls =
+    ((j, below, refl, omega (arith, tried.key)), clear_order file (suc j) tried.clear sound)
 
 first_entry : (file : List ℕ) (k least : ℕ) (f : FileFault) → k < grant_count file → Tried file k least → IsRefused file (entry_place file k) least f → First file f
 first_entry file k least f below tried (inl (is, why)) = subst (First file) (sym is) ((k, below, refl, why), tried.clear)
 first_entry file k least f below tried (inr (is, sound, falls)) =
-    subst (First file) (sym is) (first-order file k least below tried sound falls)
+    subst (First file) (sym is) (first_order file k least below tried sound falls)
 
 -- the first entry that is refused has the first fault
-pub first-refused : (file : List ℕ) (k least p : ℕ) (f : FileFault) → p ≡ entry_place file k → k < grant_count file → Tried file k least → IsRefused file p least f → First file f
-first-refused file k least p f at below tried h =
+pub first_refused : (file : List ℕ) (k least p : ℕ) (f : FileFault) → p ≡ entry_place file k → k < grant_count file → Tried file k least → IsRefused file p least f → First file f
+first_refused file k least p f at below tried h =
     first_entry file k least f below tried (subst (λ q. IsRefused file q least f) at h)
 
 pub tried_all : (file : List ℕ) (least : ℕ) → Tried file (grant_count file) least → Faultless file

@@ -48,7 +48,7 @@ Read file (Err fault) = First file fault
 
 -- the first seven checks: where the parts lie
 pub record IsLayout (file : List ℕ) (x : Layout) : Type 0 where
-  pub code-start : x.code_start ≡ code_start file
+  pub code_start : x.code_start ≡ code_start file
   pub code_end : x.code_end ≡ code_end file
   pub grant_start : x.grant_start ≡ grant_start file
   pub grant_count : x.grant_count ≡ grant_count file

@@ -12,17 +12,17 @@ use Rattle.bits.proofs.Mays.{mul_bits, one_below}
 use Rattle.marks.specs.declared.mark.Marks.{Marks}
 use Rattle.marks.specs.Marks.{Between, marks_has, marks_lawful}
 use Rattle.marks.specs.Closed.{open_bits, carries_of, open_xor, open_sum, least_of, most_of, two_low, two_high}
-use Rattle.marks.specs.Members.{low_below, ordered, high_has, either_end, may_between, between_may, carry-ordered, carry-between, between-carry, Exactly, exactly_within, same-marked, same_ends}
+use Rattle.marks.specs.Members.{low_below, ordered, high_has, either_end, may_between, between_may, carry_ordered, carry_between, between_carry, Exactly, exactly_within, same_marked, same_ends}
 
-pub one-exactly : (f : One) (x : Marks) → Exactly (one f x.low) (one f x.high) (OneMay f (marks_has x))
-one-exactly (rotate n) x k v h =
+pub one_exactly : (f : One) (x : Marks) → Exactly (one f x.low) (one f x.high) (OneMay f (marks_has x))
+one_exactly (rotate n) x k v h =
     let m = n % 8 in
     let el = bit-rotated m x.low k (omega arith) (low_below x) h in
     let eh = bit-rotated m x.high k (omega arith) x.small h in (
       λ b. between_may x ((k + m) % 8) v (omega (arith, b.0, el), omega (arith, b.1, eh)),
       λ o. let b = may_between x ((k + m) % 8) v (omega arith) o in (omega (arith, b.0, el), omega (arith, b.1, eh)),
     )
-one-exactly (keep n) x k v h =
+one_exactly (keep n) x k v h =
     let m = kept_bits (n % 8) in
     let el = λ (g : k < m). bit_mod x.low m k g in
     let eh = λ (g : k < m). bit_mod x.high m k g in
@@ -96,7 +96,7 @@ unfolding Opened
 sum_opened x y k h =
     let a = ordered x k in
     let b = ordered y k in
-    let c = carry-ordered x y k in
+    let c = carry_ordered x y k in
     let d = carry_le x.high y.high k in
     let m = bit-or (open_xor x y) (bit_xor (carries_of x.low y.low) (carries_of x.high y.high)) k in
     let n = bit-xor (carries_of x.low y.low) (carries_of x.high y.high) k in
@@ -108,13 +108,13 @@ sum_opened x y k h =
     (omega arith, bit_mod (x.low + y.low) 8 k h ∙ bit_add x.low y.low k, λ e. omega arith, λ e. omega arith)
 
 -- low and high of a bit that is the smaller of two
-and-between : (a b c d v : ℕ) → b ≤ 1 → d ≤ 1 → (u w : ℕ) → (a ≤ u) × (u ≤ b) → (c ≤ w) × (w ≤ d) → v ≡ u * w → (min a c ≤ v) × (v ≤ min b d)
-and-between a b c d v hb hd u w (p, q) (r, s) e =
+and_between : (a b c d v : ℕ) → b ≤ 1 → d ≤ 1 → (u w : ℕ) → (a ≤ u) × (u ≤ b) → (c ≤ w) × (w ≤ d) → v ≡ u * w → (min a c ≤ v) × (v ≤ min b d)
+and_between a b c d v hb hd u w (p, q) (r, s) e =
     let m = mul_bits u w (omega arith) (omega arith) in
     (omega arith, omega arith)
 
-pub two-exactly : (f : Two) (x y : Marks) → Exactly (two_low f x y) (two_high f x y) (TwoMay f (marks_has x) (marks_has y))
-two-exactly and x y k v h =
+pub two_exactly : (f : Two) (x y : Marks) → Exactly (two_low f x y) (two_high f x y) (TwoMay f (marks_has x) (marks_has y))
+two_exactly and x y k v h =
     let el = bit-and x.low y.low k in
     let eh = bit-and x.high y.high k in
     let a = ordered x k in
@@ -127,11 +127,11 @@ two-exactly and x y k v h =
           (λ e. (bit x.high k, bit y.high k, (between_may x k _ (a, omega arith), between_may y k _ (b, omega arith), omega arith)))
           (either_end (bit (two_low and x y) k) (bit (two_high and x y) k) v m.0 m.1 (omega arith)),
       λ o.
-          let r = and-between (bit x.low k) (bit x.high k) (bit y.low k) (bit y.high k) v (omega arith) (omega arith) o.0 o.1
+          let r = and_between (bit x.low k) (bit x.high k) (bit y.low k) (bit y.high k) v (omega arith) (omega arith) o.0 o.1
           (may_between x k o.0 h o.2.0) (may_between y k o.1 h o.2.1) o.2.2 in
           (omega (arith, r.0), omega (arith, r.1)),
     )
-two-exactly xor x y k v h =
+two_exactly xor x y k v h =
     let g = xor_opened x y k in (
       λ m.
           let t = opened_total _ _ _ _ k v g m in
@@ -142,29 +142,29 @@ two-exactly xor x y k v h =
           let b = may_between y k o.1 h o.2.1 in
           total_opened _ _ _ _ k v g (o.0 + o.1) (omega (arith, a.0, b.0)) (omega (arith, a.1, b.1)) o.2.2,
     )
-two-exactly sum x y k v h =
+two_exactly sum x y k v h =
     let g = sum_opened x y k h in (
       λ m.
           let t = opened_total _ _ _ _ k v g m in
           let r = split (bit x.low k + bit y.low k) (bit x.high k + bit y.high k) (carry_into x.low y.low k) (carry_into x.high y.high k) t.0
-          (omega (arith, ordered x k, ordered y k)) (carry-ordered x y k) t.1.0 t.1.1 in
+          (omega (arith, ordered x k, ordered y k)) (carry_ordered x y k) t.1.0 t.1.1 in
           let s = split_may x y k r.0 r.2.0 r.2.1 in
-          (s.0, s.1, r.1, (s.2.0, s.2.1, between-carry x y k r.1 (r.2.2, r.2.3), rw (← s.2.2, ← r.2.4) t.1.2)),
+          (s.0, s.1, r.1, (s.2.0, s.2.1, between_carry x y k r.1 (r.2.2, r.2.3), rw (← s.2.2, ← r.2.4) t.1.2)),
       λ o.
           let a = may_between x k o.0 h o.3.0 in
           let b = may_between y k o.1 h o.3.1 in
-          let c = carry-between x y k o.2 (omega arith) o.3.2 in
+          let c = carry_between x y k o.2 (omega arith) o.3.2 in
           total_opened _ _ _ _ k v g (o.0 + o.1 + o.2) (omega (arith, a.0, b.0, c.0)) (omega (arith, a.1, b.1, c.1)) o.3.3,
     )
-two-exactly carry x y zero v h =
+two_exactly carry x y zero v h =
     let l = carry_out x.low y.low (low_below x) (low_below y) in
     let g = carry_out x.high y.high x.small y.small in
     let cl = carry_le x.low y.low 8 in
     let ch = carry_le x.high y.high 8 in (
-      λ m. between-carry x y 8 v (omega (arith, m.0), omega (arith, m.1)),
-      λ o. let c = carry-between x y 8 v (omega arith) o in (omega (arith, c.0), omega (arith, c.1)),
+      λ m. between_carry x y 8 v (omega (arith, m.0), omega (arith, m.1)),
+      λ o. let c = carry_between x y 8 v (omega arith) o in (omega (arith, c.0), omega (arith, c.1)),
     )
-two-exactly carry x y (suc k) v h =
+two_exactly carry x y (suc k) v h =
     let sx = x.small in
     let sy = y.small in
     let l = bit_past ((x.low + y.low) / 256) 1 (suc k) (omega (arith, low_below x, low_below y)) (omega arith) in
@@ -176,18 +176,18 @@ two-exactly carry x y (suc k) v h =
 pub one_within : (f : One) (x : Marks) (l h : ℕ) → l ≡ one f x.low → h ≡ one f x.high → bit_and l h ≡ l
 one_within f x l h el eh =
     rw (el, eh)
-    (exactly_within _ _ _ (one_below f x.low (low_below x)) (one-exactly f x) (one f x.high)
+    (exactly_within _ _ _ (one_below f x.low (low_below x)) (one_exactly f x) (one f x.high)
     (marks_lawful.one_has f (marks_has x) x.high x.small (high_has x)))
 
 pub one_same : (f : One) (x : Marks) (l h : ℕ) → l ≡ one f x.low → h ≡ one f x.high → Same (Marked (Between l h)) (may_ones f (marks_has x))
-one_same f x l h el eh = same_ends l h _ _ _ el eh (same-marked _ _ (OneMay f (marks_has x)) (one-exactly f x))
+one_same f x l h el eh = same_ends l h _ _ _ el eh (same_marked _ _ (OneMay f (marks_has x)) (one_exactly f x))
 
 pub two_within : (f : Two) (x y : Marks) (l h : ℕ) → l < 256 → l ≡ two_low f x y → h ≡ two_high f x y → bit_and l h ≡ l
 two_within f x y l h s el eh =
     let g : two_low f x y < 256 = rw el at s in
     rw (el, eh)
-    (exactly_within _ _ _ g (two-exactly f x y) (two f x.high y.high)
-    (marks_lawful.two-has f (marks_has x) (marks_has y) x.high y.high x.small y.small (high_has x) (high_has y)))
+    (exactly_within _ _ _ g (two_exactly f x y) (two f x.high y.high)
+    (marks_lawful.two_has f (marks_has x) (marks_has y) x.high y.high x.small y.small (high_has x) (high_has y)))
 
-pub two-same : (f : Two) (x y : Marks) (l h : ℕ) → l ≡ two_low f x y → h ≡ two_high f x y → Same (Marked (Between l h)) (may_twos f (marks_has x) (marks_has y))
-two-same f x y l h el eh = same_ends l h _ _ _ el eh (same-marked _ _ (TwoMay f (marks_has x) (marks_has y)) (two-exactly f x y))
+pub two_same : (f : Two) (x y : Marks) (l h : ℕ) → l ≡ two_low f x y → h ≡ two_high f x y → Same (Marked (Between l h)) (may_twos f (marks_has x) (marks_has y))
+two_same f x y l h el eh = same_ends l h _ _ _ el eh (same_marked _ _ (TwoMay f (marks_has x) (marks_has y)) (two_exactly f x y))

@@ -8,7 +8,7 @@ use Rattle.marks.specs.declared.mark.Marks.{Marks}
 use Rattle.marks.specs.Marks.{marks_has, marks_joined}
 use Rattle.marks.specs.Closed.{two_low, two_high, joined_low, joined_high}
 use Rattle.marks.specs.Members.{low_has, high_has, low_same, high_same, lowest_same}
-use Rattle.marks.proofs.Closed.{two-same}
+use Rattle.marks.proofs.Closed.{two_same}
 use Rattle.marks.specs.Joins.{joined_within, joined_same}
 
 pub sum_of_either : (z o e r : Marks) → Same (marks_has z) (Only 0) → Same (marks_has o) (Only 1) → Same (marks_has e) (marks_joined z o)
@@ -29,6 +29,6 @@ sum_of_either z o e r hz ho he hr =
     let eh : e.high ≡ 1 = high_same e j (into e.high (high_has e)) (back j.high (high_has j)) ∙ jh in
     let l : 0 ≡ two_low sum e o = simp (el, eh, ol, oh) in
     let h : 3 ≡ two_high sum e o = simp (el, eh, ol, oh) in
-    let s = two-same sum e o 0 3 l h in
+    let s = two_same sum e o 0 3 l h in
     let t = lowest_same 2 (omega arith) in
     (λ b m. t.0 b (s.1 b (hr.0 b m)), λ b m. hr.1 b (s.0 b (t.1 b m)))

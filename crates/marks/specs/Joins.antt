@@ -12,7 +12,7 @@ use Rattle.bits.proofs.Mays.{may_inside}
 use Rattle.marks.specs.declared.mark.Marks.{Marks}
 use Rattle.marks.specs.Marks.{Between, marks_has, count_mays, marks_rank, marks_joined}
 use Rattle.marks.specs.Closed.{joined_low, joined_high}
-use Rattle.marks.specs.Members.{low_below, low_has, high_has, low_same, high_same, may_between, between_may, Exactly, same-marked, same_ends, exactly_within}
+use Rattle.marks.specs.Members.{low_below, low_has, high_has, low_same, high_same, may_between, between_may, Exactly, same_marked, same_ends, exactly_within}
 
 joined_exactly : (x y : Marks) → Exactly (joined_low x y) (joined_high x y) (λ k v. May (marks_has x) k v ⊎ May (marks_has y) k v)
 joined_exactly x y k v h =
@@ -31,11 +31,11 @@ joined_exactly x y k v h =
           m,
     )
 
-pub first-inside : (x y : Marks) → Inside (marks_has x) (marks_joined x y)
-first-inside x y b m = (m.0, λ k h. inl (b, (m, refl)))
+pub first_inside : (x y : Marks) → Inside (marks_has x) (marks_joined x y)
+first_inside x y b m = (m.0, λ k h. inl (b, (m, refl)))
 
-pub second-inside : (x y : Marks) → Inside (marks_has y) (marks_joined x y)
-second-inside x y b m = (m.0, λ k h. inr (b, (m, refl)))
+pub second_inside : (x y : Marks) → Inside (marks_has y) (marks_joined x y)
+second_inside x y b m = (m.0, λ k h. inr (b, (m, refl)))
 
 pub joined_least : (x y u : Marks) → Inside (marks_has x) (marks_has u) → Inside (marks_has y) (marks_has u) → Inside (marks_joined x y) (marks_has u)
 joined_least x y u f g b m = (
@@ -50,11 +50,11 @@ joined_least x y u f g b m = (
 pub joined_within : (x y : Marks) (l h : ℕ) → l ≡ joined_low x y → h ≡ joined_high x y → bit_and l h ≡ l
 joined_within x y l h el eh =
     rw (el, eh)
-    (exactly_within _ _ _ (omega (arith, and_le_l x.low y.low, low_below x)) (joined_exactly x y) x.high (first-inside x y x.high (high_has x)))
+    (exactly_within _ _ _ (omega (arith, and_le_l x.low y.low, low_below x)) (joined_exactly x y) x.high (first_inside x y x.high (high_has x)))
 
 pub joined_same : (x y : Marks) (l h : ℕ) → l ≡ joined_low x y → h ≡ joined_high x y → Same (Marked (Between l h)) (marks_joined x y)
 joined_same x y l h el eh =
-    same_ends l h _ _ _ el eh (same-marked _ _ (λ k v. May (marks_has x) k v ⊎ May (marks_has y) k v) (joined_exactly x y))
+    same_ends l h _ _ _ el eh (same_marked _ _ (λ k v. May (marks_has x) k v ⊎ May (marks_has y) k v) (joined_exactly x y))
 
 -- the lowest n bits of the first leave no more than those of the second
 Inner : Marks → Marks → ℕ → Type 0
@@ -104,7 +104,7 @@ other_end x j f n =
 
 module _ (x y j : Marks) (s : Same (marks_has j) (marks_joined x y)) (r : Bool) (d : Decides r ((j.low ≡ x.low) × (j.high ≡ x.high) → ⊥)) where
   inside : Inside (marks_has x) (marks_has j)
-  inside b m = s.1 b (first-inside x y b m)
+  inside b m = s.1 b (first_inside x y b m)
 
   pub joined_adds : Decides r ((b : ℕ) × (marks_joined x y b × (marks_has x b → ⊥)))
   joined_adds = (

@@ -9,7 +9,7 @@ use Rattle.operands.specs.Exact.{exact_ones}
 use Rattle.bits.specs.Bits.{bit, carry_into}
 use Rattle.bits.specs.Mays.{Marked, May, MayCarry}
 use Rattle.bits.proofs.Bits.{bit_mod, bit_past, bit_mod_past, bit-ones, bits_below, and_within, bits_same, carry_le, carry_mono}
-use Rattle.bits.proofs.Mays.{marked-inside}
+use Rattle.bits.proofs.Mays.{marked_inside}
 use Rattle.marks.specs.declared.mark.Marks.{Marks}
 use Rattle.marks.specs.Marks.{Between, marks_has}
 
@@ -38,35 +38,35 @@ between_may x k v (p, q) =
     ⊎_elim (λ e. (x.low, (low_has x, sym e))) (λ e. (x.high, (high_has x, sym e)))
     (either_end (bit x.low k) (bit x.high k) v p q (omega arith))
 
-pub carry-ordered : (x y : Marks) (k : ℕ) → carry_into x.low y.low k ≤ carry_into x.high y.high k
-carry-ordered x y k = carry_mono x.low y.low x.high y.high k (λ j h. ordered x j) (λ j h. ordered y j)
+pub carry_ordered : (x y : Marks) (k : ℕ) → carry_into x.low y.low k ≤ carry_into x.high y.high k
+carry_ordered x y k = carry_mono x.low y.low x.high y.high k (λ j h. ordered x j) (λ j h. ordered y j)
 
-pub carry-between : (x y : Marks) (k w : ℕ) → k ≤ 8 → MayCarry (marks_has x) (marks_has y) k w → (carry_into x.low y.low k ≤ w) × (w ≤ carry_into x.high y.high k)
+pub carry_between : (x y : Marks) (k w : ℕ) → k ≤ 8 → MayCarry (marks_has x) (marks_has y) k w → (carry_into x.low y.low k ≤ w) × (w ≤ carry_into x.high y.high k)
 unfolding carry_into
-carry-between x y zero w h m = (omega arith, omega arith)
-carry-between x y (suc k) w h (u, v, c, (p, q, m, e)) =
+carry_between x y zero w h m = (omega arith, omega arith)
+carry_between x y (suc k) w h (u, v, c, (p, q, m, e)) =
     let a = may_between x k u (omega arith) p in
     let b = may_between y k v (omega arith) q in
-    let d = carry-between x y k c (omega arith) m in
+    let d = carry_between x y k c (omega arith) m in
     (omega (arith, a.0, b.0, d.0, e), omega (arith, a.1, b.1, d.1, e))
 
-pub between-carry : (x y : Marks) (k w : ℕ) → (carry_into x.low y.low k ≤ w) × (w ≤ carry_into x.high y.high k) → MayCarry (marks_has x) (marks_has y) k w
+pub between_carry : (x y : Marks) (k w : ℕ) → (carry_into x.low y.low k ≤ w) × (w ≤ carry_into x.high y.high k) → MayCarry (marks_has x) (marks_has y) k w
 unfolding carry_into
-between-carry x y zero w (p, q) = omega arith
-between-carry x y (suc k) w (p, q) =
-    let o = carry-ordered x y k in
+between_carry x y zero w (p, q) = omega arith
+between_carry x y (suc k) w (p, q) =
+    let o = carry_ordered x y k in
     ⊎_elim
-    (λ e. (bit x.low k, bit y.low k, carry_into x.low y.low k, ((x.low, (low_has x, refl)), (y.low, (low_has y, refl)), between-carry x y k _ (omega arith, o), e)))
-    (λ e. (bit x.high k, bit y.high k, carry_into x.high y.high k, ((x.high, (high_has x, refl)), (y.high, (high_has y, refl)), between-carry x y k _ (o, omega arith), e)))
+    (λ e. (bit x.low k, bit y.low k, carry_into x.low y.low k, ((x.low, (low_has x, refl)), (y.low, (low_has y, refl)), between_carry x y k _ (omega arith, o), e)))
+    (λ e. (bit x.high k, bit y.high k, carry_into x.high y.high k, ((x.high, (high_has x, refl)), (y.high, (high_has y, refl)), between_carry x y k _ (o, omega arith), e)))
     (either_end (carry_into x.low y.low (suc k)) (carry_into x.high y.high (suc k)) w p q (carry_le x.high y.high (suc k)))
 
 -- low and high leave exactly the outcomes O
 abbrev pub Exactly : ℕ → ℕ → (ℕ → ℕ → Type 0) → Type 0
 Exactly l h O = (k v : ℕ) → k < 8 → (Between l h k v → O k v) × (O k v → Between l h k v)
 
-pub same-marked : (l h : ℕ) (O : ℕ → ℕ → Type 0) → Exactly l h O → Same (Marked (Between l h)) (Marked O)
-same-marked l h O e =
-    (marked-inside (Between l h) O (λ k v g. (e k v g).0), marked-inside O (Between l h) (λ k v g. (e k v g).1))
+pub same_marked : (l h : ℕ) (O : ℕ → ℕ → Type 0) → Exactly l h O → Same (Marked (Between l h)) (Marked O)
+same_marked l h O e =
+    (marked_inside (Between l h) O (λ k v g. (e k v g).0), marked_inside O (Between l h) (λ k v g. (e k v g).1))
 
 pub same_ends : (l h a b : ℕ) (P : Bytes) → l ≡ a → h ≡ b → Same (Marked (Between a b)) P → Same (Marked (Between l h)) P
 same_ends l h a b P el eh s = rw (el, eh) s

@@ -18,7 +18,7 @@ exact_lawful has some bytes member =
       bytes = bytes;
       member = member;
       one_has = λ f P a h p. (a, (p, refl));
-      two-has = λ f P Q a b ha hb p q. (a, b, (p, (q, refl)));
+      two_has = λ f P Q a b ha hb p q. (a, b, (p, (q, refl)));
       one_inside = λ f P Q i b h. (h.0, (i h.0 h.1.0, h.1.1));
-      two-inside = λ f P Q U V i j c h. (h.0, h.1, (i h.0 h.2.0, (j h.1 h.2.1.0, h.2.1.1)));
+      two_inside = λ f P Q U V i j c h. (h.0, h.1, (i h.0 h.2.0, (j h.1 h.2.1.0, h.2.1.1)));
     }

@@ -17,7 +17,7 @@ pub record Lawful {K : Type 0} (o : Operations K) : Type 1 where
   pub member : (x : K) → (b : ℕ) × o.has x b
   -- an answer has every byte that the operation gives from members
   pub one_has : (f : One) (P : Bytes) (a : ℕ) → a < 256 → P a → o.ones f P (one f a)
-  pub two-has : (f : Two) (P Q : Bytes) (a b : ℕ) → a < 256 → b < 256 → P a → Q b → o.twos f P Q (two f a b)
+  pub two_has : (f : Two) (P Q : Bytes) (a b : ℕ) → a < 256 → b < 256 → P a → Q b → o.twos f P Q (two f a b)
   -- inputs inside inputs give answers inside answers
   pub one_inside : (f : One) (P Q : Bytes) → Inside P Q → Inside (o.ones f P) (o.ones f Q)
-  pub two-inside : (f : Two) (P Q U V : Bytes) → Inside P U → Inside Q V → Inside (o.twos f P Q) (o.twos f U V)
+  pub two_inside : (f : Two) (P Q U V : Bytes) → Inside P U → Inside Q V → Inside (o.twos f P Q) (o.twos f U V)

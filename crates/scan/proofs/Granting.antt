@@ -29,19 +29,19 @@ module _ {K : Type 0} (o : Operations K) (l : Lawful o) (grants : List ℕ) (s :
   )
 
   module _ (n p : ℕ) (i : Instruction) (stays : Strays o n s p i → ⊥) (ready : UsesUnready i s → ⊥) where
-    before-withheld : (j : Breach) → order j < 4 → RunShows o n grants s p i j → ⊥
-    before-withheld NotPermitted lt h = h
-    before-withheld Outside lt h = stays h
-    before-withheld Chain lt h = h
-    before-withheld Unready lt h = ready h
-    before-withheld Withheld lt h = absurd (omega arith)
+    before_withheld : (j : Breach) → order j < 4 → RunShows o n grants s p i j → ⊥
+    before_withheld NotPermitted lt h = h
+    before_withheld Outside lt h = stays h
+    before_withheld Chain lt h = h
+    before_withheld Unready lt h = ready h
+    before_withheld Withheld lt h = absurd (omega arith)
 
-    pub run-withheld : Exceeds grants (cover i) s → First (RunShows o n grants s p i) (Some Withheld)
-    run-withheld h = (h, before-withheld)
+    pub run_withheld : Exceeds grants (cover i) s → First (RunShows o n grants s p i) (Some Withheld)
+    run_withheld h = (h, before_withheld)
 
-    pub run-clear : (Exceeds grants (cover i) s → ⊥) → First (RunShows o n grants s p i) None
-    run-clear none NotPermitted h = h
-    run-clear none Outside h = stays h
-    run-clear none Chain h = h
-    run-clear none Unready h = ready h
-    run-clear none Withheld h = none h
+    pub run_clear : (Exceeds grants (cover i) s → ⊥) → First (RunShows o n grants s p i) None
+    run_clear none NotPermitted h = h
+    run_clear none Outside h = stays h
+    run_clear none Chain h = h
+    run_clear none Unready h = ready h
+    run_clear none Withheld h = none h

@@ -18,11 +18,11 @@ use Rattle.flow.specs.Entries.{allows, Entered}
 use Rattle.flow.specs.Breaches.{Cover, Exceeds, UsesUnready, Occurs, Meets}
 use Rattle.flow.proofs.Monotone.{next_more, reaches_more, runs_more}
 use Rattle.scan.specs.Verdicts.{First, Clear, Lowest}
-use Rattle.scan.proofs.Shown.{first-same}
+use Rattle.scan.proofs.Shown.{first_same}
 
-selector-part : (b : Side) → number_of (selector b) < 18
-selector-part Left = omega arith
-selector-part Right = omega arith
+selector_part : (b : Side) → number_of (selector b) < 18
+selector_part Left = omega arith
+selector_part Right = omega arith
 
 unready_part_lem : (b : Side) → unready_part b < 18
 unready_part_lem Left = omega arith
@@ -30,7 +30,7 @@ unready_part_lem Right = omega arith
 
 exceeds_more : (grants : List ℕ) (c : Cover) (s u : State) → Fits s u → Exceeds grants c s → Exceeds grants c u
 exceeds_more grants None s u f w = w
-exceeds_more grants (Some c) s u f w = (w.0, (f _ (selector-part c.0) w.0 w.1.0, w.1.1))
+exceeds_more grants (Some c) s u f w = (w.0, (f _ (selector_part c.0) w.0 w.1.0, w.1.1))
 
 unready_more : (i : Instruction) (s u : State) → Fits s u → UsesUnready i s → UsesUnready i u
 unready_more i s u f w = (w.0, (w.1.0, f _ (unready_part_lem w.0) 0 w.1.1))
@@ -47,8 +47,8 @@ seen_same {K} o cell cell' left left' right right' same e d r h b m =
     let move : cond (eqb r 16) left' right' ≡ cond (eqb r 16) left right = cc in move ∙ was))
     (cases_lt r 16)
 
-entered-alike : {K : Type 0} (o : Operations K) (status : List ℕ) (operands : List K) (p : ℕ) (e : Entry K) → Entered o status operands p e → Alike (allows o e) (holds o (table_of o status operands) p)
-entered-alike o status operands p e h = (
+entered_alike : {K : Type 0} (o : Operations K) (status : List ℕ) (operands : List K) (p : ℕ) (e : Entry K) → Entered o status operands p e → Alike (allows o e) (holds o (table_of o status operands) p)
+entered_alike o status operands p e h = (
   seen_same o _ _ _ _ _ _ h.operand h.left h.right,
   seen_same o _ _ _ _ _ _ (λ r lt. sym (h.operand r lt)) (sym h.left) (sym h.right),
 )
@@ -67,18 +67,18 @@ module _ {K : Type 0} (o : Operations K) (l : Lawful o) (code grants : List ℕ)
       (w.0, (runs_more o l code s u p w.0 f w.1.0, exceeds_more grants _ s u f w.1.1))
 
   -- what an entry that was read from memory has is what the table has
-  pub first-entered : (status : List ℕ) (operands : List K) (p : ℕ) (e : Entry K) (r : Option Breach) → Entered o status operands p e → First (Occurs o code grants (allows o e) p) r → First (Occurs o code grants (holds o (table_of o status operands) p) p) r
-  first-entered status operands p e r h f =
+  pub first_entered : (status : List ℕ) (operands : List K) (p : ℕ) (e : Entry K) (r : Option Breach) → Entered o status operands p e → First (Occurs o code grants (allows o e) p) r → First (Occurs o code grants (holds o (table_of o status operands) p) p) r
+  first_entered status operands p e r h f =
       let t = table_of o status operands in
-      let alike = entered-alike o status operands p e h in
-      first-same (Occurs o code grants (allows o e) p) (Occurs o code grants (holds o t p) p) r
+      let alike = entered_alike o status operands p e h in
+      first_same (Occurs o code grants (allows o e) p) (Occurs o code grants (holds o t p) p) r
       (λ k w. occurs_more k _ _ p alike.0 w) (λ k w. occurs_more k _ _ p alike.1 w) f
 
-  pub clear-under : (t u : Table K) → Under o (words_in code) t u → Clear o code grants u → Clear o code grants t
-  clear-under t u under clear p h e k w =
+  pub clear_under : (t u : Table K) → Under o (words_in code) t u → Clear o code grants u → Clear o code grants t
+  clear_under t u under clear p h e k w =
       let m = under p h e in clear p h m.0 k (occurs_more k _ _ p m.1 w)
 
   -- a breach in the least table that keeps the rules is a breach in every one
   pub lowest_dooms : (t : Table K) (address : ℕ) (breach : Breach) → Lowest o code grants t address breach → ((u : Table K) → Rules o code u → Under o (words_in code) t u) → (u : Table K) → Meets o code grants u → ⊥
   lowest_dooms t address breach low least u m =
-      clear-under t u (least u m.rules) m.clear address low.inside low.entered breach low.first.0
+      clear_under t u (least u m.rules) m.clear address low.inside low.entered breach low.first.0

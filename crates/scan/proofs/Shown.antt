@@ -18,9 +18,9 @@ use Rattle.flow.proofs.Spans.{reaches_within}
 use Rattle.scan.specs.Verdicts.{First}
 use Rattle.scan.specs.Signs.{earlier, Strays, RunShows, RunsFrom, Below, WordShows, HereShows, ShownBelow}
 
-pub first-same : (P Q : Breach → Type 0) (r : Option Breach) → ((k : Breach) → P k → Q k) → ((k : Breach) → Q k → P k) → First P r → First Q r
-first-same P Q None to from f = λ j h. f j (from j h)
-first-same P Q (Some k) to from f = (to k f.0, λ j l h. f.1 j l (from j h))
+pub first_same : (P Q : Breach → Type 0) (r : Option Breach) → ((k : Breach) → P k → Q k) → ((k : Breach) → Q k → P k) → First P r → First Q r
+first_same P Q None to from f = λ j h. f j (from j h)
+first_same P Q (Some k) to from f = (to k f.0, λ j l h. f.1 j l (from j h))
 
 -- the earlier of two firsts is the first of both
 first_either : (P Q : Breach → Type 0) (x y : Option Breach) → First P x → First Q y → First (λ k. P k ⊎ Q k) (earlier x y)
@@ -81,14 +81,14 @@ module _ {K : Type 0} (o : Operations K) (code grants : List ℕ) (s : State) (p
     -- no word is reached below the first target
     pub shown_none : (a : ℕ) (found : Option Breach) → a ≡ first_target here p → First (HereShows here s) found → First (Shown a) found
     shown_none a found e f =
-        first-same (HereShows here s) (Shown a) found (λ k h. inl h)
+        first_same (HereShows here s) (Shown a) found (λ k h. inl h)
         (λ k h. ⊎_elim (λ w. w) (λ w. let le = (reaches_within o s p here w.0 w.1.1.0).0 in absurd (omega (arith, w.1.0))) h) f
 
     -- one more word, which is reached and has its first breach
     pub shown_more : (a : ℕ) (found word after : Option Breach) → after ≡ earlier found word → ReachesBy o s p here a → First (Shown a) found → First (WordShows o code grants s p a) word → First (Shown (a + 1)) after
     shown_more a found word after e r f g =
         subst (First (Shown (a + 1))) (sym e)
-        (first-same (λ k. Shown a k ⊎ WordShows o code grants s p a k) (Shown (a + 1)) (earlier found word)
+        (first_same (λ k. Shown a k ⊎ WordShows o code grants s p a k) (Shown (a + 1)) (earlier found word)
         (λ k h. ⊎_elim (λ w. ⊎_elim inl (λ b. inr (below_next a (Reached k) (inl b))) w) (λ w. inr (below_next a (Reached k) (inr (r, w)))) h)
         (λ k h. ⊎_elim (λ w. inl (inl w)) (λ b. ⊎_elim (λ w. inl (inr w)) (λ w. inr w.1) (below_back a (Reached k) b)) h)
         (first_either (Shown a) (WordShows o code grants s p a) found word f g))
@@ -97,7 +97,7 @@ module _ {K : Type 0} (o : Operations K) (code grants : List ℕ) (s : State) (p
     pub shown_past : (a : ℕ) (found after : Option Breach) → after ≡ found → (ReachesBy o s p here a → ⊥) → First (Shown a) found → First (Shown (a + 1)) after
     shown_past a found after e r f =
         subst (First (Shown (a + 1))) (sym e)
-        (first-same (Shown a) (Shown (a + 1)) found
+        (first_same (Shown a) (Shown (a + 1)) found
         (λ k h. ⊎_elim inl (λ b. inr (below_next a (Reached k) (inl b))) h)
         (λ k h. ⊎_elim inl (λ b. ⊎_elim inr (λ w. absurd (r w.0)) (below_back a (Reached k) b)) h) f)
 
@@ -105,32 +105,32 @@ module _ {K : Type 0} (o : Operations K) (code grants : List ℕ) (s : State) (p
     pub shown_all : (n : ℕ) (found : Option Breach) → here ≡ instruction_at code p → first_target here p + target_count here ≤ n → First (Shown n) found → First (Occurs o code grants s p) found
     shown_all n found e le f =
         let all : (a : ℕ) → RunsAt o code s p a → a < n = λ a r. let lt = (reaches_within o s p here a (subst (λ (i : Option Instruction). ReachesBy o s p i a) (sym e) r)).1 in omega arith in
-        first-same (ShownBelow o code grants s p (instruction_at code p) n) (Occurs o code grants s p) found (λ k. shown_occurs k n) (λ k. occurs_shown k n all)
+        first_same (ShownBelow o code grants s p (instruction_at code p) n) (Occurs o code grants s p) found (λ k. shown_occurs k n) (λ k. occurs_shown k n all)
         (subst (λ (i : Option Instruction). First (ShownBelow o code grants s p i n) found) e f)
 
 module _ {K : Type 0} (o : Operations K) (code grants : List ℕ) (s : State) (p a : ℕ) (i : Instruction) (runs : RunsFrom code a i) where
-  run-word : (k : Breach) → RunShows o (words_in code) grants s p i k → WordShows o code grants s p a k
-  run-word NotPermitted h = absurd h
-  run-word Outside h = inr (i, (runs, h))
-  run-word Chain h = absurd h
-  run-word Unready h = (i, (runs, h))
-  run-word Withheld h = (i, (runs, h))
+  run_word : (k : Breach) → RunShows o (words_in code) grants s p i k → WordShows o code grants s p a k
+  run_word NotPermitted h = absurd h
+  run_word Outside h = inr (i, (runs, h))
+  run_word Chain h = absurd h
+  run_word Unready h = (i, (runs, h))
+  run_word Withheld h = (i, (runs, h))
 
-  same-run : (j : Instruction) → instruction_at code a ≡ Some j → j ≡ i
-  same-run j e = let d = runs.1.0 in cc
+  same_run : (j : Instruction) → instruction_at code a ≡ Some j → j ≡ i
+  same_run j e = let d = runs.1.0 in cc
 
-  word-run : (k : Breach) → WordShows o code grants s p a k → RunShows o (words_in code) grants s p i k
-  word-run NotPermitted h = let d = runs.1.0 in let e = h.1 in let z : ◌≡◌ {A = ℕ} 0 1 = cc in absurd (omega arith)
-  word-run Outside (inl h) = absurd (omega (arith, runs.0))
-  word-run Outside (inr h) = subst (λ (j : Instruction). Strays o (words_in code) s p j) (same-run h.0 h.1.0.1.0) h.1.1
-  word-run Chain h =
-      absurd (both_ways (is_xec i) runs.1.1 (subst (λ (j : Instruction). is_xec j ≡ true) (same-run h.1.0 h.1.1.0) h.1.1.1))
-  word-run Unready h = subst (λ (j : Instruction). UsesUnready j s) (same-run h.0 h.1.0.1.0) h.1.1
-  word-run Withheld h = subst (λ (j : Instruction). Exceeds grants (cover j) s) (same-run h.0 h.1.0.1.0) h.1.1
+  word_run : (k : Breach) → WordShows o code grants s p a k → RunShows o (words_in code) grants s p i k
+  word_run NotPermitted h = let d = runs.1.0 in let e = h.1 in let z : ◌≡◌ {A = ℕ} 0 1 = cc in absurd (omega arith)
+  word_run Outside (inl h) = absurd (omega (arith, runs.0))
+  word_run Outside (inr h) = subst (λ (j : Instruction). Strays o (words_in code) s p j) (same_run h.0 h.1.0.1.0) h.1.1
+  word_run Chain h =
+      absurd (both_ways (is_xec i) runs.1.1 (subst (λ (j : Instruction). is_xec j ≡ true) (same_run h.1.0 h.1.1.0) h.1.1.1))
+  word_run Unready h = subst (λ (j : Instruction). UsesUnready j s) (same_run h.0 h.1.0.1.0) h.1.1
+  word_run Withheld h = subst (λ (j : Instruction). Exceeds grants (cover j) s) (same_run h.0 h.1.0.1.0) h.1.1
 
   -- a word that runs shows what its instruction shows
   pub word_shows : (r : Option Breach) → First (RunShows o (words_in code) grants s p i) r → First (WordShows o code grants s p a) r
-  word_shows r f = first-same (RunShows o (words_in code) grants s p i) (WordShows o code grants s p a) r run-word word-run f
+  word_shows r f = first_same (RunShows o (words_in code) grants s p i) (WordShows o code grants s p a) r run_word word_run f
 
 -- what was read inside the code
 pub meant_inside : (code : List ℕ) (a : ℕ) (r : Option Instruction) → a < words_in code → r ≡ cond (ltb a (words_in code)) (instruction_at code a) None → r ≡ instruction_at code a

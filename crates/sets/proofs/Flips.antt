@@ -3,7 +3,7 @@ use Rattle.std.proofs.Common.{◌≡◌, ℕ, suc, ◌+◌, ◌-◌, ◌*◌, �
 use lib.Bits.{bit_and, bit_xor, and_high, and_comm, xor_add_and, xor_assoc, xor_self, xor_zero_l, xor_block}
 use Rattle.std.proofs.lemmas.Nat.{xor_lt, pow_below}
 use Rattle.std.proofs.lemmas.Bool.Decides.{Decides-eqb}
-use Rattle.operands.proofs.Rotations.{every, every-at}
+use Rattle.operands.proofs.Rotations.{every, every_at}
 use Rattle.bits.specs.Bits.{bit}
 use Rattle.bits.proofs.Bits.{bit-xor}
 use Rattle.sets.specs.Mixing.{clear_places}
@@ -45,16 +45,16 @@ abbrev clear : ℕ → ℕ → Bool
 clear j k = eqb (bit (clear_places j) k) (1 - bit k j)
 
 pub bit-clear_places : (j k : ℕ) → j < 7 → k < 128 → bit (clear_places j) k ≡ 1 - bit k j
-bit-clear_places j k hj hk = (Decides-eqb _ _).0 (every-at 128 (clear j) (every-at 7 (λ i. every 128 (clear i)) refl j hj) k hk)
+bit-clear_places j k hj hk = (Decides-eqb _ _).0 (every_at 128 (clear j) (every_at 7 (λ i. every 128 (clear i)) refl j hj) k hk)
 
 abbrev without : ℕ → ℕ → Bool
 without j k = eqb (bit_and (255 - 2 ^ j) k + bit k j * 2 ^ j) k
 
-pub and-without : (j k : ℕ) → j < 8 → k < 256 → bit_and (255 - 2 ^ j) k + bit k j * 2 ^ j ≡ k
-and-without j k hj hk = (Decides-eqb _ _).0 (every-at 256 (without j) (every-at 8 (λ i. every 256 (without i)) refl j hj) k hk)
+pub and_without : (j k : ℕ) → j < 8 → k < 256 → bit_and (255 - 2 ^ j) k + bit k j * 2 ^ j ≡ k
+and_without j k hj hk = (Decides-eqb _ _).0 (every_at 256 (without j) (every_at 8 (λ i. every 256 (without i)) refl j hj) k hk)
 
 abbrev seventh : ℕ → Bool
 seventh k = eqb (bit_xor 128 k) ((k + 128) % 256)
 
 pub flip_seventh : (k : ℕ) → k < 256 → bit_xor 128 k ≡ (k + 128) % 256
-flip_seventh k h = (Decides-eqb _ _).0 (every-at 256 seventh refl k h)
+flip_seventh k h = (Decides-eqb _ _).0 (every_at 256 seventh refl k h)

@@ -6,7 +6,7 @@ use Rattle.operands.specs.Bytes.{Bytes, Same, Every}
 use Rattle.bits.specs.Bits.{bit}
 use Rattle.sets.specs.Numbers.{In}
 use Rattle.sets.proofs.Highest.{in_top}
-use Rattle.sets.proofs.Unions.{same-from-number, in_zero, in_or, in_or_left, in_or_right, in_all}
+use Rattle.sets.proofs.Unions.{same_from_number, in_zero, in_or, in_or_left, in_or_right, in_all}
 
 abbrev pub From : ℕ → (ℕ → Bytes) → Bytes
 From xs Part k = (a : ℕ) × (In xs a × Part a k)
@@ -47,4 +47,4 @@ module _ (xs : ℕ) (Part : ℕ → Bytes) where
   -- all bytes are there, and no part has another
   pub gathered_full : (rest n : ℕ) → n ≡ 2 ^ 256 - 1 → ((a k : ℕ) → In xs a → Part a k → k < 256) → Gathered xs Part rest n → Same (In n) (From xs Part)
   gathered_full rest n e small g =
-      (g.0, λ k (a, (h, p)). (same-from-number n (2 ^ 256 - 1) Every e in_all).1 k (small a k h p))
+      (g.0, λ k (a, (h, p)). (same_from_number n (2 ^ 256 - 1) Every e in_all).1 k (small a k h p))

@@ -10,7 +10,7 @@ use Rattle.sets.specs.Mixing.{mix_of, mixer, mixed_bit, clear_places}
 use Rattle.sets.specs.declared.rows.Mix.{Mix}
 use Rattle.sets.specs.declared.rows.Mix.TheVariants.{And, Xor}
 use Rattle.bits.proofs.Bits.{bit-and, bit_mod, bit-or, bit_past}
-use Rattle.sets.proofs.Flips.{flip_clear, flip_set, bit_flip, flip_flip, flip_below, flip_high, bit-clear_places, and-without, flip_seventh}
+use Rattle.sets.proofs.Flips.{flip_clear, flip_set, bit_flip, flip_flip, flip_below, flip_high, bit-clear_places, and_without, flip_seventh}
 use Rattle.sets.proofs.Halves.{bit_low, bit_high, bit_shr, bit_shl_above, bit_shl_under}
 use Rattle.sets.proofs.Turns.{wide, image_moved, bit_swapped}
 
@@ -30,9 +30,9 @@ module _ (w j s k : ℕ) (es : s ≡ 2 ^ j) (hj : j < 7) (hk : k < 128) where
   raised = bit_and w (clear_places j) * 2 ^ s % 2 ^ 128
 
   -- a place that lacks bit j gets nothing from below
-  raised-clear : bit k j ≡ 0 → bit raised k ≡ 0
+  raised_clear : bit k j ≡ 0 → bit raised k ≡ 0
   unfolding raised
-  raised-clear e =
+  raised_clear e =
       bit_mod (bit_and w (clear_places j) * 2 ^ s) 128 k hk ∙ ⊎_elim
       (λ lt. bit_shl_under s (bit_and w (clear_places j)) k lt)
       (λ ge.
@@ -45,9 +45,9 @@ module _ (w j s k : ℕ) (es : s ≡ 2 ^ j) (hj : j < 7) (hk : k < 128) where
       ∙ omega (arith, bit-and w (clear_places j) i, bit-clear_places j i hj (omega arith), set))
       (cases_lt k s)
 
-  raised-set : bit k j ≡ 1 → bit raised k ≡ bit w (bit_xor (2 ^ j) k)
+  raised_set : bit k j ≡ 1 → bit raised k ≡ bit w (bit_xor (2 ^ j) k)
   unfolding raised
-  raised-set e =
+  raised_set e =
       let i = bit_xor (2 ^ j) k in
       let d : s + i ≡ k = omega (arith, es, flip_set j k e) in
       bit_mod (bit_and w (clear_places j) * 2 ^ s) 128 k hk ∙ ap (bit (bit_and w (clear_places j) * 2 ^ s)) (sym d)
@@ -61,8 +61,8 @@ module _ (w j s k : ℕ) (es : s ≡ 2 ^ j) (hj : j < 7) (hk : k < 128) where
       let a = bit-and (w / 2 ^ s) (clear_places j) k in
       let m = bit-clear_places j k hj hk in
       ⊎_elim
-      (λ (e : bit k j ≡ 0). omega (arith, o, a, m, e, down e, raised-clear e))
-      (λ (n : bit k j ≡ 0 → ⊥). let e : bit k j ≡ 1 = omega arith in omega (arith, o, a, m, e, raised-set e))
+      (λ (e : bit k j ≡ 0). omega (arith, o, a, m, e, down e, raised_clear e))
+      (λ (n : bit k j ≡ 0 → ⊥). let e : bit k j ≡ 1 = omega arith in omega (arith, o, a, m, e, raised_set e))
       (cases_eq (bit k j) 0)
 
 -- n has, at each place, what the mix with bit j makes of the bits of x
@@ -129,7 +129,7 @@ image_mixed And j r n hj hr hn f = (
       (cases_eq (bit n k) 1)),
   (λ k (c, (h, e)).
       let lt = in_below 256 n c hn h in
-      let lk : k < 256 = omega (arith, e, and-without j c hj lt) in
+      let lk : k < 256 = omega (arith, e, and_without j c hj lt) in
       let is = f k lk in
       ⊎_elim
       (λ (z : bit c j ≡ 0).
@@ -145,7 +145,7 @@ image_mixed And j r n hj hr hn f = (
 )
   where
     kept : (c : ℕ) → c < 256 → bit c j ≡ 0 → bit_and (255 - 2 ^ j) c ≡ c
-    kept c h z = omega (arith, and-without j c hj h, ap (λ m. m * 2 ^ j) z)
+    kept c h z = omega (arith, and_without j c hj h, ap (λ m. m * 2 ^ j) z)
 
     dropped : (c : ℕ) → c < 256 → bit c j ≡ 1 → bit_and (255 - 2 ^ j) c + 2 ^ j ≡ c
-    dropped c h z = omega (arith, and-without j c hj h, ap (λ m. m * 2 ^ j) z)
+    dropped c h z = omega (arith, and_without j c hj h, ap (λ m. m * 2 ^ j) z)

@@ -5,7 +5,7 @@ use lib.Bits.{bit_and, bit_xor, and_step, and_zero_l, and_comm, and_mask, xor_as
 use Rattle.std.proofs.lemmas.Bool.{cond-true, cond-false, eq-eqb, ne_eqb}
 use Rattle.std.proofs.lemmas.Bool.Decides.{Decides-eqb}
 use Rattle.operands.specs.Bytes.{Bytes, Same, two}
-use Rattle.operands.proofs.Rotations.{every, every-at}
+use Rattle.operands.proofs.Rotations.{every, every_at}
 use Rattle.bits.specs.Bits.{bit}
 use Rattle.sets.specs.Numbers.{In, in_below}
 use Rattle.sets.specs.Steps.{Image}
@@ -44,11 +44,11 @@ all_steps Xor = refl
 
 part_next : (mix : Mix) (a j : ℕ) → a < 256 → j < 8 →
     cond (eqb (bit a j) (wanted mix)) (two (mix_of mix) (mixer mix j) (part mix a j)) (part mix a j) ≡ part mix a (j + 1)
-part_next mix a j ha hj = (Decides-eqb _ _).0 (every-at 256 (steps mix j) (every-at 8 (λ i. every 256 (steps mix i)) (all_steps mix) j hj) a ha)
+part_next mix a j ha hj = (Decides-eqb _ _).0 (every_at 256 (steps mix j) (every_at 8 (λ i. every 256 (steps mix i)) (all_steps mix) j hj) a ha)
 
 module _ (mix : Mix) (a j : ℕ) (ha : a < 256) (hj : j < 8) (P R : Bytes) (g : Same P (Image (two (mix_of mix) (part mix a j)) R)) where
-  pub image-part-more : (Q : Bytes) → bit a j ≡ wanted mix → Same Q (Image (two (mix_of mix) (mixer mix j)) P) → Same Q (Image (two (mix_of mix) (part mix a (j + 1))) R)
-  image-part-more Q e q =
+  pub image_part_more : (Q : Bytes) → bit a j ≡ wanted mix → Same Q (Image (two (mix_of mix) (mixer mix j)) P) → Same Q (Image (two (mix_of mix) (part mix a (j + 1))) R)
+  image_part_more Q e q =
       let op = two (mix_of mix) in
       let next : op (mixer mix j) (part mix a j) ≡ part mix a (j + 1) =
       sym (cond-true (eqb (bit a j) (wanted mix)) (op (mixer mix j) (part mix a j)) (part mix a j) (eq-eqb (bit a j) (wanted mix) e)) ∙ part_next mix a j ha hj in

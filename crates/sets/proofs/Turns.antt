@@ -72,7 +72,7 @@ bit_swapped low high k sl sh h =
     (cases_lt k 128)
 
 -- sums modulo 256 move every bit
-pub image-sum : (a r n : ℕ) → a < 256 → r < 2 ^ 256 → n < 2 ^ 256 →
+pub image_sum : (a r n : ℕ) → a < 256 → r < 2 ^ 256 → n < 2 ^ 256 →
     ((k : ℕ) → k < 256 → bit r k ≡ bit n ((k + (256 - a)) % 256)) → Same (In r) (Image (two sum a) (In n))
-image-sum a r n ha hr hn moved =
+image_sum a r n ha hr hn moved =
     image_moved r n (two sum a) (λ k. (k + (256 - a)) % 256) hr hn moved (λ k h. omega arith) (λ c h. (omega arith, omega arith))

@@ -5,14 +5,14 @@ use Rattle.std.proofs.lemmas.Nat.{shl-shr, pow-add, pow_pos, pow_below, div_belo
 use Rattle.std.proofs.lemmas.Bool.{cases_eq, cases_order}
 use Rattle.std.proofs.lemmas.Bool.Decides.{Decides-eqb}
 use Rattle.operands.specs.Bytes.{Bytes, Only, Every, Same}
-use Rattle.operands.proofs.Rotations.{every-at}
+use Rattle.operands.proofs.Rotations.{every_at}
 use Rattle.bits.specs.Bits.{bit}
 use Rattle.bits.proofs.Bits.{bit-or}
 use Rattle.sets.specs.Numbers.{In, in_below}
 
 -- equal numbers have the same members
-pub same-from-number : (n m : ℕ) (Q : Bytes) → n ≡ m → Same (In m) Q → Same (In n) Q
-same-from-number n m Q e s = let Goal : ℕ → Type 0 = λ z. Same (In z) Q in subst Goal (sym e) s
+pub same_from_number : (n m : ℕ) (Q : Bytes) → n ≡ m → Same (In m) Q → Same (In n) Q
+same_from_number n m Q e s = let Goal : ℕ → Type 0 = λ z. Same (In z) Q in subst Goal (sym e) s
 
 pub in_or : (a b k : ℕ) → In (bit_or a b) k → In a k ⊎ In b k
 in_or a b k h =
@@ -60,7 +60,7 @@ full k = eqb (bit (2 ^ 256 - 1) k) 1
 
 -- tried at every byte
 pub in_all : Same (In (2 ^ 256 - 1)) Every
-in_all = (λ k. in_below 256 (2 ^ 256 - 1) k (omega arith), λ k h. (Decides-eqb _ _).0 (every-at 256 full refl k h))
+in_all = (λ k. in_below 256 (2 ^ 256 - 1) k (omega arith), λ k h. (Decides-eqb _ _).0 (every_at 256 full refl k h))
 
 pub in_or_same : (a b : ℕ) → Same (In (bit_or a b)) (λ k. In a k ⊎ In b k)
 in_or_same a b = (in_or a b, λ k h. ⊎_elim (in_or_left a b k) (in_or_right a b k) h)

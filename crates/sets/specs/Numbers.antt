@@ -7,7 +7,7 @@ use Rattle.std.proofs.lemmas.Nat.{leading_top, div_below, le-div, pow_pos}
 use Rattle.std.proofs.lemmas.Bool.{cases_lt}
 use Rattle.operands.specs.Bytes.{Bytes}
 use Rattle.bits.specs.Bits.{bit}
-use Rattle.sets.specs.declared.bits.Bits.{Bits as Words}
+use Rattle.sets.specs.declared.bitset.Bits.{Bits as Words}
 
 abbrev pub In : ℕ → Bytes
 In n b = bit n b ≡ 1

@@ -5,7 +5,7 @@ ghost use Rattle.operands.specs.Exact.{exact_twos};
 ghost use Rattle.sets.specs.Numbers.{number, In};
 ghost use Rattle.sets.specs.Steps.{Image, step_of, op_of};
 
-use crate::bits::Bits;
+use crate::bitset::Bits;
 use crate::rows::{Mix, mixed_row, sum_row};
 use operands::{Byte, Operand};
 

@@ -1,7 +1,7 @@
 // Sets of bytes as operands: each answer has exactly the bytes that members give.
 #![tactic(auto)]
 
-mod bits;
+mod bitset;
 mod images;
 mod operand;
 mod rows;

@@ -8,7 +8,7 @@ ghost use Rattle.sets.specs.Steps.{Image, step_of, op_of};
 ghost use Rattle.sets.specs.Sets.{set_has, set_rank, set_joined, set_operations, set_lawful, OneOrTwo};
 ghost use Rattle.std.proofs.lemmas.Nat.{ones-le};
 
-use crate::bits::Bits;
+use crate::bitset::Bits;
 use crate::images::{Op, Step, combined, image};
 use crate::set::Set;
 use operands::{LeastJoin, Operand, Spreading};

@@ -7,7 +7,7 @@ ghost use Rattle.sets.specs.Numbers.{number, In};
 ghost use Rattle.sets.specs.Mixing.{mix_of, mixer, wanted, mixed_bit, clear_places};
 ghost use Rattle.sets.specs.Steps.{Image};
 
-use crate::bits::Bits;
+use crate::bitset::Bits;
 
 // `w` moved up by `by` places, with the top of `below` under it.
 fn moved_up(w: u128, below: u128, by: u8) -> u128

@@ -2,7 +2,7 @@
 ghost use Rattle.std.specs.Prelude.{◌^◌, ◌<◌};
 ghost use Rattle.sets.specs.Numbers.{number};
 
-use crate::bits::Bits;
+use crate::bitset::Bits;
 
 #[derive(Clone, Copy)]
 pub struct Set {

@@ -9,9 +9,9 @@ use Rattle.words.specs.Words.{meaning_of, meaning, permitted, opcode}
 use Rattle.instructions.specs.Classes.{class_of, class_number}
 
 -- a word is permitted exactly where it has a meaning
-pub meaning-permitted : (w : ℕ) → is_some (meaning w) ≡ permitted w
+pub meaning_permitted : (w : ℕ) → is_some (meaning w) ≡ permitted w
 unfolding meaning_of permitted
-meaning-permitted w = grind (arith, nat_tests)
+meaning_permitted w = grind (arith, nat_tests)
 
 -- the first three bits are the number of the class
 pub meaning_class : (w : ℕ) → w < 65536 → IfSome (meaning w) (λ i. class_number (class_of i) ≡ opcode w)

@@ -30,6 +30,6 @@ parts_meaning w i hw h =
     omega (arith, e)
 
 -- no two words mean one instruction
-pub meaning-alone : (w : ℕ) (r : Option Instruction) → w < 65536 → meaning w ≡ r → Alone w r
-meaning-alone w None hw h = tt
-meaning-alone w (Some i) hw h = λ v hv g. sym (parts_meaning v i hv g) ∙ parts_meaning w i hw h
+pub meaning_alone : (w : ℕ) (r : Option Instruction) → w < 65536 → meaning w ≡ r → Alone w r
+meaning_alone w None hw h = tt
+meaning_alone w (Some i) hw h = λ v hv g. sym (parts_meaning v i hv g) ∙ parts_meaning w i hw h

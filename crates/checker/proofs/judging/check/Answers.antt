@@ -1,6 +1,6 @@
 use Rattle.std.proofs.Common.{ℕ, List, ◌∙◌, subst}
 use Rattle.checker.specs.Judging.{Judged, code_of}
-use Rattle.checker.proofs.Verdicts.{code-bytes, grant_bytes}
+use Rattle.checker.proofs.Verdicts.{code_bytes, grant_bytes}
 use Rattle.checker.proofs.judging.check.Goals as goal
 
 pub returns : goal.returns
@@ -8,7 +8,7 @@ returns g c =
     let o = g.K.Operand.operations in
     let read = c.in_ok-image.ensures in
     let image = c.in_ok-image.image in
-    let code = c.bytes.ensures ∙ code-bytes c.args.file.now _ _ image.code read.1.code in
+    let code = c.bytes.ensures ∙ code_bytes c.args.file.now _ _ image.code read.1.code in
     let grants = c.bytes-2.ensures ∙ grant_bytes c.args.file.now _ _ image.grants read.1.grants in
     record {
       no_image = λ f first. absurd (read.0 f first.0);

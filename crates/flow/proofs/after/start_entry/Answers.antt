@@ -1,11 +1,11 @@
 use Rattle.std.proofs.Common.{refl}
 use Rattle.operands.specs.Bytes.One.{keep}
-use Rattle.effects.proofs.Bytes.{same-ones}
-use Rattle.flow.proofs.Storing.{start-alike}
+use Rattle.effects.proofs.Bytes.{same_ones}
+use Rattle.flow.proofs.Storing.{start_alike}
 use Rattle.flow.proofs.after.start_entry.Goals as goal
 
 pub returns : goal.returns
 returns g c =
     let o = g.K.Operand.operations in
-    start-alike o _ c.all-operands.result c.keep_lowest.result c.all-operands.ensures
-    (same-ones o g.K.Operand.lawful (keep 1) _ _ _ c.keep_lowest.ensures c.all.ensures) refl refl refl
+    start_alike o _ c.all-operands.result c.keep_lowest.result c.all-operands.ensures
+    (same_ones o g.K.Operand.lawful (keep 1) _ _ _ c.keep_lowest.ensures c.all.ensures) refl refl refl

@@ -4,7 +4,7 @@ use Rattle.instructions.specs.declared.field.Side.TheVariants.{Left, Right}
 use Rattle.instructions.specs.Registers.{number_of}
 use Rattle.effects.specs.Usage.{select_side, is_side}
 use Rattle.flow.proofs.Parts.{number_below_16}
-use Rattle.flow.proofs.Storing.{stored-alike}
+use Rattle.flow.proofs.Storing.{stored_alike}
 use Rattle.flow.proofs.after.stored.Goals as goal
 
 pub returns : goal.returns
@@ -14,7 +14,7 @@ returns g c =
     let e = c.args.entry in
     let low = number_below_16 r in
     let few : number_of r < length e.operands = omega arith in
-    stored-alike o e _ (number_of r) (select_side r) c.args.operand low few
+    stored_alike o e _ (number_of r) (select_side r) c.args.operand low few
     (ap (λ k. set e.operands k c.args.operand) c.number.ensures.value)
     (c.still_unready-left.ensures ∙ ap (λ (b : Option Side). (e.left && not (is_side Left b))) c.select_side-selected.ensures)
     (c.still_unready-right.ensures ∙ ap (λ (b : Option Side). (e.right && not (is_side Right b))) c.select_side-selected.ensures)

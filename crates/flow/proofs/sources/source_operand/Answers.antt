@@ -2,7 +2,7 @@ use Rattle.std.proofs.Common.{sym, subst}
 use Rattle.instructions.specs.declared.instruction.Source.{Source}
 use Rattle.operands.specs.Bytes.{Same}
 use Rattle.operands.specs.Bytes.One.{rotate}
-use Rattle.effects.proofs.Bytes.{same-ones}
+use Rattle.effects.proofs.Bytes.{same_ones}
 use Rattle.flow.specs.States.{source_bytes}
 use Rattle.flow.specs.Entries.{allows}
 use Rattle.flow.proofs.Parts.{same_field}
@@ -12,7 +12,7 @@ pub returns-in-Register : goal.returns-in-Register
 returns-in-Register g c =
     let o = g.K.Operand.operations in
     subst (λ (s : Source). Same (o.has c.rotate_right.result) (source_bytes o s (allows o c.args.entry))) (sym c.in-Register.is)
-    (same-ones o g.K.Operand.lawful (rotate c.in-Register.rotate) _ _ _ c.rotate_right.ensures c.register_operand.ensures)
+    (same_ones o g.K.Operand.lawful (rotate c.in-Register.rotate) _ _ _ c.rotate_right.ensures c.register_operand.ensures)
 
 pub returns-in-Field : goal.returns-in-Field
 returns-in-Field g c =

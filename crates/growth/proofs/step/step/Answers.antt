@@ -4,9 +4,9 @@ use Rattle.std.proofs.lemmas.Bool.{cond-true, lt-ltb}
 use Rattle.words.specs.Code.{words_in}
 use Rattle.growth.specs.Growth.{Went}
 use Rattle.growth.proofs.Sizes.{entry_fits}
-use Rattle.growth.proofs.Seen.{entered-alike}
-use Rattle.growth.proofs.Midway.{taken_up, tidy-due}
-use Rattle.growth.proofs.Easing.{taken-eased, taken-lighter, eased_then, load_falls}
+use Rattle.growth.proofs.Seen.{entered_alike}
+use Rattle.growth.proofs.Midway.{taken_up, tidy_due}
+use Rattle.growth.proofs.Easing.{taken_eased, taken_lighter, eased_then, load_falls}
 use Rattle.growth.proofs.Stepping.{runs_within, stepping_start, stepping_is, stepping_word, stepping_skip, stepping_end}
 use Rattle.growth.proofs.step.step.Goals as goal
 use Rattle.growth.proofs.step.step.Goals.{in-Some-runs_at, in_default-runs_at}
@@ -40,10 +40,10 @@ loop-k-init g c =
     let operands = c.args.operands.now in
     let saved = c.in-Some.saved in
     let first = c.first_target-first.result in
-    let due = tidy-due (get_or status p 0) (c.requires.growing.tidy p c.requires.inside) c.requires.due in
+    let due = tidy_due (get_or status p 0) (c.requires.growing.tidy p c.requires.inside) c.requires.due in
     let ls : p < length status = omega arith in
     stepping_start o g.K.Operand.lawful g.K.Spreading.joined g.K.Spreading.rank g.K.Spreading.top code p saved (first + 0) status operands c.requires.inside ls due
-    (entered-alike o status operands p saved (c.entry_at.ensures.entry saved c.in-Some.is).1) c.requires.quiet c.requires.growing
+    (entered_alike o status operands p saved (c.entry_at.ensures.entry saved c.in-Some.is).1) c.requires.quiet c.requires.growing
     (λ k i runs.
     let within = runs_within o code p saved c.instruction_at-here.result first c.target_count-k-end.result
     (c.instruction_at-here.ensures ∙ cond-true _ _ _ (lt-ltb _ _ c.requires.inside)) c.first_target-first.ensures c.target_count-k-end.ensures k i runs in
@@ -98,9 +98,9 @@ returns g c =
     let c2 = c.loop-k.operands in
     let saved = c.in-Some.saved in
     let first = c.first_target-first.result in
-    let due = tidy-due (get_or s0 p 0) (c.requires.growing.tidy p c.requires.inside) c.requires.due in
+    let due = tidy_due (get_or s0 p 0) (c.requires.growing.tidy p c.requires.inside) c.requires.due in
     let ls : p < length s0 = omega arith in
-    let taken = taken-eased o rank top n p s0 c0 ls due c.requires.inside in
+    let taken = taken_eased o rank top n p s0 c0 ls due c.requires.inside in
     let all : c.target_count-k-end.result ≤ c.loop-k.k = c.loop-k-test.false in
     record {
       growing = stepping_end o l joined rank top code p saved s1 c0 (first + c.loop-k.k) c.loop-k.low s2 c2
@@ -110,6 +110,6 @@ returns g c =
           omega (arith, within.1))
           c.loop-k.invariant;
       kept = (eased_then o rank top n s0 c0 s1 c0 s2 c2 taken c.loop-k.invariant.eased).kept;
-      falls = load_falls o rank top n p s0 c0 s1 c0 s2 c2 c.requires.inside (taken-lighter o rank top n p s0 c0 ls due) taken c.loop-k.invariant.eased;
+      falls = load_falls o rank top n p s0 c0 s1 c0 s2 c2 c.requires.inside (taken_lighter o rank top n p s0 c0 ls due) taken c.loop-k.invariant.eased;
       quiet = c.loop-k.invariant.quiet;
     }

@@ -1,11 +1,11 @@
 use Rattle.std.proofs.Common.{◌≡◌, ℕ, ◌-◌, ◌%◌, ◌^◌, ◌<◌, Bool, eqb, sym, refl, subst, arith}
 use Rattle.std.proofs.lemmas.Bool.Decides.{Decides-eqb}
-use Rattle.operands.proofs.Rotations.{every, every-at}
+use Rattle.operands.proofs.Rotations.{every, every_at}
 use Rattle.operands.specs.Bytes.{Bytes, Same, Only, Every, one, rotated}
 use Rattle.operands.specs.Bytes.One.{rotate}
 use Rattle.sets.specs.Numbers.{number, In}
 use Rattle.sets.proofs.Gathering.{gathered_none, gathered_more, gathered_all}
-use Rattle.sets.proofs.Unions.{same-from-number, in_pow, in_all}
+use Rattle.sets.proofs.Unions.{same_from_number, in_pow, in_all}
 use Rattle.sets.proofs.images.rotated_members.Goals as goal
 
 pub members-init : goal.members-init
@@ -18,7 +18,7 @@ members-preserved c =
     let b = c.rotated.result in
     let m = number c.only.result in
     let Gives : ℕ → Type 0 = λ z. Same (In m) (Only z) in
-    let part = subst Gives c.rotated.ensures (same-from-number m (2 ^ b) (Only b) c.only.ensures (in_pow b)) in
+    let part = subst Gives c.rotated.ensures (same_from_number m (2 ^ b) (Only b) c.only.ensures (in_pow b)) in
     gathered_more (number c.args.xs) Part (number c.members.rest) (number c.members.out) top.result.0 (number top.result.1) m
     (number c.union-out.result) top.ensures.0 top.ensures.1 c.union-out.ensures c.members.invariant part
 
@@ -32,13 +32,13 @@ turns n k = eqb (rotated n (rotated ((8 - n) % 8) k)) k
 
 -- a byte rotated by all eight places is itself: tried at every count and every byte
 rotated-rotated : (n k : ℕ) → n < 8 → k < 256 → rotated n (rotated ((8 - n) % 8) k) ≡ k
-rotated-rotated n k hn hk = (Decides-eqb _ _).0 (every-at 256 (turns n) (every-at 8 (λ m. every 256 (turns m)) refl n hn) k hk)
+rotated-rotated n k hn hk = (Decides-eqb _ _).0 (every_at 256 (turns n) (every_at 8 (λ m. every 256 (turns m)) refl n hn) k hk)
 
 pub returns-then-is_all : goal.returns-then-is_all
 returns-then-is_all c =
     let xs = number c.args.xs in
     let n = c.args.by % 8 in
-    let every_byte = same-from-number xs (2 ^ 256 - 1) Every (c.is_all.ensures.0 c.if-is_all.true) in_all in (
+    let every_byte = same_from_number xs (2 ^ 256 - 1) Every (c.is_all.ensures.0 c.if-is_all.true) in_all in (
       (λ k h.
           let a = rotated ((8 - n) % 8) k in
           (a, (every_byte.1 a (omega arith), sym (rotated-rotated n k (omega arith) (every_byte.0 k h))))),

@@ -6,7 +6,7 @@ use Rattle.operands.specs.Bytes.Two.{carry}
 use Rattle.operands.specs.Exact.{exact_twos}
 use Rattle.sets.specs.Numbers.{number}
 use Rattle.sets.specs.Sets.{set_has}
-use Rattle.sets.proofs.Unions.{same-from-number, or_pos}
+use Rattle.sets.proofs.Unions.{same_from_number, or_pos}
 use Rattle.sets.proofs.Carries.{greatest_from_top, carries_same}
 use Rattle.sets.proofs.operand.carries.Goals as goal
 
@@ -31,7 +31,7 @@ returns c =
     let second : number c.only-2.result ≡ 2 ^ most = c.only-2.ensures ∙ ap (λ z. 2 ^ z) c.carry_of.ensures in
     let is : number c.made.result.bits ≡ bit_or (2 ^ least) (2 ^ most) =
     c.made.ensures ∙ c.union.ensures ∙ ap (λ z. bit_or z (number c.only-2.result)) first ∙ ap (bit_or (2 ^ least)) second in
-    same-from-number (number c.made.result.bits) (bit_or (2 ^ least) (2 ^ most)) (exact_twos carry (set_has x) (set_has y)) is
+    same_from_number (number c.made.result.bits) (bit_or (2 ^ least) (2 ^ most)) (exact_twos carry (set_has x) (set_has y)) is
     (carries_same n m la lb ta.result.0 tb.result.0 (c.lowest.ensures.found, c.lowest.ensures.least) (c.lowest-2.ensures.found, c.lowest-2.ensures.least)
     (greatest_from_top n ta.result.0 (number ta.result.1) ta.ensures.0 ta.ensures.1)
     (greatest_from_top m tb.result.0 (number tb.result.1) tb.ensures.0 tb.ensures.1)

@@ -4,7 +4,7 @@ use Rattle.operands.specs.Bytes.{Same, two}
 use Rattle.sets.specs.Numbers.{number, In}
 use Rattle.sets.specs.Steps.{Image}
 use Rattle.sets.specs.Mixing.{mix_of}
-use Rattle.sets.proofs.Parts.{part, image_part_none, image-part-more, image_part_skip, part_all}
+use Rattle.sets.proofs.Parts.{part, image_part_none, image_part_more, image_part_skip, part_all}
 use Rattle.sets.proofs.rows.mixed_row.Goals as goal
 use Rattle.sets.proofs.rows.mixed_row.Goals.{then-changes, else-changes}
 
@@ -22,7 +22,7 @@ loop-j-preserved c =
     elim c.if-changes.branch [
       | then-changes w ↦
           subst Goal (sym (ap number w.out-is))
-          (image-part-more mix a j (omega arith) (omega arith) P R c.loop-j.invariant (In (number w.mixed-out.result)) (c.changes.ensures.0 w.if-changes.true) w.mixed-out.ensures)
+          (image_part_more mix a j (omega arith) (omega arith) P R c.loop-j.invariant (In (number w.mixed-out.result)) (c.changes.ensures.0 w.if-changes.true) w.mixed-out.ensures)
       | else-changes w ↦
           subst Goal (sym (ap number w.out-is))
           (image_part_skip mix a j (omega arith) (omega arith) P R c.loop-j.invariant (not_from_Decides _ c.changes.ensures w.if-changes.false))

@@ -1,5 +1,5 @@
 use Rattle.std.proofs.Common.{sym, ◌∙◌, arith}
-use Rattle.engine.proofs.Runs.{run_none, run_more, run-refused, run_all}
+use Rattle.engine.proofs.Runs.{run_none, run_more, run_refused, run_all}
 use Rattle.engine.proofs.machine.Machine.run_on.Goals as goal
 
 pub loop-finished-init : goal.loop-finished-init
@@ -12,7 +12,7 @@ loop-finished-preserved g c =
 
 pub returns-in-Err : goal.returns-in-Err
 returns-in-Err g c =
-    run-refused c.args.code.now c.args.cycles c.loop-finished.finished _ _ _ c.loop-finished-test.true c.loop-finished.invariant
+    run_refused c.args.code.now c.args.cycles c.loop-finished.finished _ _ _ c.loop-finished-test.true c.loop-finished.invariant
     c.in-Err.fault (sym c.in-Err.is ∙ c.cycle.ensures.answer) c.cycle.ensures.state
 
 pub returns : goal.returns

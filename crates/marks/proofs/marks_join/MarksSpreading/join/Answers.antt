@@ -1,6 +1,6 @@
 use Rattle.std.proofs.Common.{◌<◌, arith}
 use Rattle.marks.specs.declared.mark.Marks.{Marks}
-use Rattle.marks.specs.Joins.{joined_within, joined_same, first-inside, second-inside, joined_adds, joined_rests, joined_rises}
+use Rattle.marks.specs.Joins.{joined_within, joined_same, first_inside, second_inside, joined_adds, joined_rests, joined_rises}
 use Rattle.marks.proofs.marks_join.MarksSpreading.join.Goals as goal
 
 pub invariant_of-joined : goal.invariant_of-joined
@@ -20,8 +20,8 @@ returns c =
     let s = joined_same x y l h e.low e.high in
     record {
       members = s;
-      first = first-inside x y;
-      second = second-inside x y;
+      first = first_inside x y;
+      second = second_inside x y;
       added = joined_adds x y j s c.differ.result c.differ.ensures;
       rests = joined_rests x y j s c.differ.result c.differ.ensures;
       rises = joined_rises x y j s c.differ.result c.differ.ensures;

@@ -1,6 +1,6 @@
 use Rattle.std.proofs.Common.{arith}
 use Rattle.operands.specs.Bytes.Two.{sum, carry}
-use Rattle.marks.proofs.Closed.{two_within, two-same}
+use Rattle.marks.proofs.Closed.{two_within, two_same}
 use Rattle.marks.proofs.marks_kind.MarksOperand.add.Goals as goal
 
 pub invariant_of-result : goal.invariant_of-result
@@ -18,6 +18,6 @@ returns c =
     let s = c.sum_ends-low.ensures in
     let e = c.carry_ends-least.ensures in
     record {
-      sums = two-same sum c.args.self c.args.other _ _ s.low s.high;
-      carries = two-same carry c.args.self c.args.other _ _ e.low e.high;
+      sums = two_same sum c.args.self c.args.other _ _ s.low s.high;
+      carries = two_same carry c.args.self c.args.other _ _ e.low e.high;
     }

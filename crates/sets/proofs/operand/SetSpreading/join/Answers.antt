@@ -4,7 +4,7 @@ use lib.Count.{ones}
 use Rattle.std.proofs.lemmas.Bool.{both_ways, cases_eq}
 use Rattle.sets.specs.Numbers.{number, In}
 use Rattle.sets.specs.Sets.{set_joined}
-use Rattle.sets.proofs.Unions.{same-from-number, or_pos, in_or_same}
+use Rattle.sets.proofs.Unions.{same_from_number, or_pos, in_or_same}
 use Rattle.sets.proofs.Growing.{More, or_more}
 use Rattle.sets.proofs.operand.SetSpreading.join.Goals as goal
 
@@ -25,7 +25,7 @@ returns c =
     let apart : More n m → number c.union-both.result ≡ n → ⊥ = λ (b, (h, out)) e.
     out (subst (λ z. In z b) (sym c.union-both.ensures ∙ e) ((in_or_same n m).1 b h)) in
     record {
-      members = same-from-number (number c.made.result.bits) (bit_or n m) (set_joined x y) is (in_or_same n m);
+      members = same_from_number (number c.made.result.bits) (bit_or n m) (set_joined x y) is (in_or_same n m);
       first = λ b h. inl h;
       second = λ b h. inr h;
       added = (λ t. (grown t).1, λ more. differs.1 (apart more));

@@ -1,6 +1,6 @@
 use Rattle.std.proofs.Common.{arith}
 use Rattle.sets.proofs.Lowest.{trailing_least}
-use Rattle.sets.proofs.bits.lowest_bit.Goals as goal
+use Rattle.sets.proofs.bitset.lowest_bit.Goals as goal
 
 pub returns : goal.returns
 returns c =

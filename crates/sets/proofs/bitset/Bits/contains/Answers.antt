@@ -1,7 +1,7 @@
 use Rattle.std.proofs.Common.{◌≡◌, ◌+◌, ◌-◌, arith}
 use Rattle.std.proofs.lemmas.Bool.Decides.{nat_tests}
 use Rattle.sets.proofs.Halves.{bit_low, bit_high}
-use Rattle.sets.proofs.bits.Bits.contains.Goals as goal
+use Rattle.sets.proofs.bitset.Bits.contains.Goals as goal
 
 pub returns-then-b-lt128 : goal.returns-then-b-lt128
 returns-then-b-lt128 c =

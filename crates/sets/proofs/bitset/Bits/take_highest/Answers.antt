@@ -1,6 +1,6 @@
 use Rattle.std.proofs.Common.{arith}
 use Rattle.std.proofs.lemmas.Nat.{one_shl, pow-add}
-use Rattle.sets.proofs.bits.Bits.take_highest.Goals as goal
+use Rattle.sets.proofs.bitset.Bits.take_highest.Goals as goal
 
 pub returns-then-self-gt0 : goal.returns-then-self-gt0
 returns-then-self-gt0 c =

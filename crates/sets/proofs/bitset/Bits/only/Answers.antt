@@ -1,6 +1,6 @@
 use Rattle.std.proofs.Common.{◌≡◌, ◌+◌, ◌-◌, arith}
 use Rattle.std.proofs.lemmas.Nat.{one_shl, pow-add}
-use Rattle.sets.proofs.bits.Bits.only.Goals as goal
+use Rattle.sets.proofs.bitset.Bits.only.Goals as goal
 
 pub returns-then-b-lt128 : goal.returns-then-b-lt128
 returns-then-b-lt128 c = omega (arith, one_shl c.args.b 128 (omega arith))

@@ -1,7 +1,7 @@
 use Rattle.std.proofs.Common.{◌≡◌, ◌-◌, pow-suc, arith}
 use lib.Count.{count_leading_zeros}
 use Rattle.std.proofs.lemmas.Nat.{leading_top}
-use Rattle.sets.proofs.bits.highest_bit.Goals as goal
+use Rattle.sets.proofs.bitset.highest_bit.Goals as goal
 
 pub returns : goal.returns
 returns c =

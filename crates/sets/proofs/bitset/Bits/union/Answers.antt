@@ -1,6 +1,6 @@
 use Rattle.std.proofs.Common.{arith}
 use lib.Bits.{or_block}
-use Rattle.sets.proofs.bits.Bits.union.Goals as goal
+use Rattle.sets.proofs.bitset.Bits.union.Goals as goal
 
 pub returns : goal.returns
 returns c =

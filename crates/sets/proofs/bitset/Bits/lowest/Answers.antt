@@ -4,7 +4,7 @@ use Rattle.bits.specs.Bits.{bit}
 use Rattle.sets.specs.Numbers.{number}
 use Rattle.sets.proofs.Halves.{bit_low, bit_high}
 use Rattle.sets.proofs.Unions.{in_zero}
-use Rattle.sets.proofs.bits.Bits.lowest.Goals as goal
+use Rattle.sets.proofs.bitset.Bits.lowest.Goals as goal
 
 pub returns-then-self-gt0 : goal.returns-then-self-gt0
 returns-then-self-gt0 c =
