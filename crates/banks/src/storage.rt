@@ -1,8 +1,8 @@
 // Working storage: a bank whose bits are all writable.
 ghost use Rattle.std.specs.Prelude.{◌≡◌, length};
 ghost use Rattle.std.proofs.Common.{◌∙◌};
-ghost use Rattle.banks.specs.Ports.{merged, stored_ports};
-ghost use Rattle.banks.specs.PortsLemmas.{length-stored};
+ghost use Rattle.std.proofs.lemmas.List.{length-map};
+ghost use Rattle.banks.specs.Ports.{merged, stored, stored_ports};
 
 use crate::bank::Bank;
 use crate::port::merge;
@@ -34,7 +34,7 @@ impl Storage {
 impl Bank for Storage {
     ghost ports = { λ b. stored_ports b.bytes };
 
-    ghost full = { λ b. length-stored b.bytes ∙ b.full };
+    ghost full = { λ b. length-map b.bytes stored ∙ b.full };
 
     fn read(&self, port: u8) -> u8 {
         self.bytes[port as usize]

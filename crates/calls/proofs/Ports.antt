@@ -5,7 +5,7 @@ use Rattle.std.proofs.lemmas.List.{get_or_past}
 use Rattle.bits.specs.Bits.{bit}
 use Rattle.banks.specs.Ports.{Ports, blank, port_at, written_at, driven, driven_at}
 use Rattle.banks.specs.declared.port.Port.{Port}
-use Rattle.banks.specs.PortsLemmas.{merged_mixed}
+use Rattle.banks.proofs.Ports.{merged_mixed}
 use Rattle.engine.proofs.Laws.{mask_written}
 
 -- what holds at one place and at every other holds everywhere

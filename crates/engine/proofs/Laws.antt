@@ -17,7 +17,7 @@ use Rattle.words.specs.Code.{words_in, word_at}
 use Rattle.words.specs.Rebuilding.{destination_number}
 use Rattle.words.proofs.Meanings.{result_number, meaning_spares_r10}
 use Rattle.banks.specs.Ports.{Ports, merged, blank, port_at, written, written_at}
-use Rattle.banks.specs.PortsLemmas.{merged_mixed}
+use Rattle.banks.proofs.Ports.{merged_mixed}
 use Rattle.banks.specs.declared.port.Port.{Port}
 use Rattle.effects.specs.Arithmetic.{result_byte, carry_byte}
 use Rattle.effects.specs.Fields.{raised_by, field_mask}

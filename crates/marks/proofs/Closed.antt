@@ -12,7 +12,7 @@ use Rattle.bits.proofs.Mays.{mul_bits, one_below}
 use Rattle.marks.specs.declared.mark.Marks.{Marks}
 use Rattle.marks.specs.Marks.{Between, marks_has, marks_lawful}
 use Rattle.marks.specs.Closed.{open_bits, carries_of, open_xor, open_sum, least_of, most_of, two_low, two_high}
-use Rattle.marks.specs.Members.{low_below, ordered, high_has, either_end, may_between, between_may, carry_ordered, carry_between, between_carry, Exactly, exactly_within, same_marked, same_ends}
+use Rattle.marks.proofs.Members.{low_below, ordered, high_has, either_end, may_between, between_may, carry_ordered, carry_between, between_carry, Exactly, exactly_within, same_marked, same_ends}
 
 pub one_exactly : (f : One) (x : Marks) → Exactly (one f x.low) (one f x.high) (OneMay f (marks_has x))
 one_exactly (rotate n) x k v h =

@@ -1,2 +1,4 @@
+pub mod Members
 pub mod Closed
+pub mod Joins
 pub mod Sums

@@ -7,9 +7,9 @@ use Rattle.bits.specs.Mays.{may_twos}
 use Rattle.marks.specs.declared.mark.Marks.{Marks}
 use Rattle.marks.specs.Marks.{marks_has, marks_joined}
 use Rattle.marks.specs.Closed.{two_low, two_high, joined_low, joined_high}
-use Rattle.marks.specs.Members.{low_has, high_has, low_same, high_same, lowest_same}
+use Rattle.marks.proofs.Members.{low_has, high_has, low_same, high_same, lowest_same}
 use Rattle.marks.proofs.Closed.{two_same}
-use Rattle.marks.specs.Joins.{joined_within, joined_same}
+use Rattle.marks.proofs.Joins.{joined_within, joined_same}
 
 pub sum_of_either : (z o e r : Marks) → Same (marks_has z) (Only 0) → Same (marks_has o) (Only 1) → Same (marks_has e) (marks_joined z o)
     → Same (marks_has r) (may_twos sum (marks_has e) (marks_has o)) → Same (marks_has r) (λ b. b < 4)

@@ -1,4 +1,2 @@
 pub mod Marks
 pub mod Closed
-pub mod Joins
-pub mod Members

@@ -6,7 +6,7 @@
 --   count_mays l h n   of the lowest n bits, how many may be 0, and how many may be 1, together
 --   marks_rank x       the same of all eight bits
 --   marks_joined x y   the bytes each of whose bits a member of x or of y has
-use Rattle.std.specs.Prelude.{ℕ, zero, suc, ◌+◌, ◌-◌, ◌≤◌, refl}
+use Rattle.std.specs.Prelude.{ℕ, zero, suc, ◌+◌, ◌-◌, ◌*◌, ◌≤◌, refl}
 use Rattle.std.proofs.Common.{arith}
 use Rattle.operands.specs.Bytes.{Bytes}
 use Rattle.operands.specs.Operations.{Operations, Lawful}
@@ -36,6 +36,12 @@ marks_lawful =
 unfoldable pub count_mays : ℕ → ℕ → ℕ → ℕ
 count_mays l h zero = 0
 count_mays l h (suc k) = (1 - bit l k) + bit h k + count_mays l h k
+
+-- a bit counts twice at the most
+pub count_le : (l h n : ℕ) → count_mays l h n ≤ 2 * n
+unfolding count_mays
+count_le l h zero = omega arith
+count_le l h (suc n) = omega (arith, count_le l h n)
 
 abbrev pub marks_rank : Marks → ℕ
 marks_rank x = count_mays x.low x.high 8

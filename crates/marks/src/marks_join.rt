@@ -1,7 +1,6 @@
 // Joins of marks, and how often marks can grow.
 ghost use Rattle.std.specs.Prelude.{◌≡◌, Decides};
-ghost use Rattle.marks.specs.Marks.{marks_rank, marks_joined};
-ghost use Rattle.marks.specs.Joins.{count_le};
+ghost use Rattle.marks.specs.Marks.{marks_rank, marks_joined, count_le};
 
 use crate::ends::{all_ends, joined_ends};
 use crate::mark::Marks;

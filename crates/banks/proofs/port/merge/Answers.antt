@@ -1,5 +1,5 @@
 use Rattle.std.proofs.Common.{refl}
-use Rattle.banks.specs.PortsLemmas.{merged_mixed}
+use Rattle.banks.proofs.Ports.{merged_mixed}
 use Rattle.banks.proofs.port.merge.Goals as goal
 
 pub returns : goal.returns

@@ -1,5 +1,5 @@
 use Rattle.operands.specs.Bytes.One.{keep}
-use Rattle.marks.specs.Members.{only_one}
+use Rattle.marks.proofs.Members.{only_one}
 use Rattle.marks.proofs.ends.kept_byte.Goals as goal
 
 pub returns : goal.returns

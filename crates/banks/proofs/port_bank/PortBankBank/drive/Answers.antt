@@ -1,7 +1,7 @@
 use Rattle.std.proofs.Common.{◌≡◌, set, ap, arith}
 use Rattle.banks.specs.declared.port.Port.{Port}
 use Rattle.banks.specs.Ports.{port_at, driven_at}
-use Rattle.banks.specs.PortsLemmas.{merges}
+use Rattle.banks.proofs.Ports.{merges}
 use Rattle.banks.proofs.port_bank.PortBankBank.drive.Goals as goal
 
 pub returns : goal.returns

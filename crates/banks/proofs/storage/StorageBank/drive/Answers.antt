@@ -1,6 +1,6 @@
 use Rattle.std.proofs.Common.{ℕ, ◌<◌, length, arith}
 use Rattle.banks.specs.Ports.{merged, port_at, stored_ports}
-use Rattle.banks.specs.PortsLemmas.{merges, length-stored, stored_merged}
+use Rattle.banks.proofs.Ports.{merges, length-stored, stored_merged}
 use Rattle.banks.proofs.storage.StorageBank.drive.Goals as goal
 
 pub returns : goal.returns

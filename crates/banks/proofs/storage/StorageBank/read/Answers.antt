@@ -1,5 +1,5 @@
 use Rattle.std.proofs.Common.{sym, ap, arith}
-use Rattle.banks.specs.PortsLemmas.{stored_at}
+use Rattle.banks.proofs.Ports.{stored_at}
 use Rattle.banks.specs.declared.port.Port.{Port}
 use Rattle.banks.proofs.storage.StorageBank.read.Goals as goal
 

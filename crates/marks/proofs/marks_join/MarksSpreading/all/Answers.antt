@@ -1,5 +1,5 @@
 use Rattle.std.proofs.Common.{arith}
-use Rattle.marks.specs.Members.{same_ends, lowest_same}
+use Rattle.marks.proofs.Members.{same_ends, lowest_same}
 use Rattle.marks.proofs.marks_join.MarksSpreading.all.Goals as goal
 
 pub returns : goal.returns

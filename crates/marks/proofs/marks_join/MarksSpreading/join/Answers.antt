@@ -1,6 +1,6 @@
 use Rattle.std.proofs.Common.{◌<◌, arith}
 use Rattle.marks.specs.declared.mark.Marks.{Marks}
-use Rattle.marks.specs.Joins.{joined_within, joined_same, first_inside, second_inside, joined_adds, joined_rests, joined_rises}
+use Rattle.marks.proofs.Joins.{joined_within, joined_same, first_inside, second_inside, joined_adds, joined_rests, joined_rises}
 use Rattle.marks.proofs.marks_join.MarksSpreading.join.Goals as goal
 
 pub invariant_of-joined : goal.invariant_of-joined

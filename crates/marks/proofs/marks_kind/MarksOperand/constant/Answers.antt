@@ -1,6 +1,6 @@
 use Rattle.std.proofs.Common.{sym, ap, ◌∙◌, arith}
 use lib.Bits.{bit_and, and_self}
-use Rattle.marks.specs.Members.{same_ends, same_only}
+use Rattle.marks.proofs.Members.{same_ends, same_only}
 use Rattle.marks.proofs.marks_kind.MarksOperand.constant.Goals as goal
 
 pub invariant_of-result : goal.invariant_of-result

@@ -1,5 +1,5 @@
 use Rattle.std.proofs.Common.{◌≡◌, ℕ, refl, arith}
-use Rattle.marks.specs.Members.{within_has, has_within}
+use Rattle.marks.proofs.Members.{within_has, has_within}
 use Rattle.marks.proofs.marks_kind.MarksOperand.contains.Goals as goal
 
 pub returns-then-is_within : goal.returns-then-is_within

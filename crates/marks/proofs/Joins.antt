@@ -1,5 +1,5 @@
 -- Joins of marks: what they have, that they are least, and that one that adds something has more mays. Assumes nothing.
-use Rattle.std.specs.Prelude.{◌≡◌, ℕ, zero, suc, ◌*◌, ◌<◌, ◌≤◌, Bool, true, false, ◌⊎◌, Decides, refl}
+use Rattle.std.specs.Prelude.{◌≡◌, ℕ, zero, suc, ◌<◌, ◌≤◌, Bool, true, false, ◌⊎◌, Decides, refl}
 use Rattle.std.proofs.Common.{subst, inl, inr, ⊎_elim, arith}
 use Rattle.std.specs.Int.Bits.{bit_and}
 use Rattle.std.proofs.lemmas.Nat.{and_le_l}
@@ -12,7 +12,7 @@ use Rattle.bits.proofs.Mays.{may_inside}
 use Rattle.marks.specs.declared.mark.Marks.{Marks}
 use Rattle.marks.specs.Marks.{Between, marks_has, count_mays, marks_rank, marks_joined}
 use Rattle.marks.specs.Closed.{joined_low, joined_high}
-use Rattle.marks.specs.Members.{low_below, low_has, high_has, low_same, high_same, may_between, between_may, Exactly, same_marked, same_ends, exactly_within}
+use Rattle.marks.proofs.Members.{low_below, low_has, high_has, low_same, high_same, may_between, between_may, Exactly, same_marked, same_ends, exactly_within}
 
 joined_exactly : (x y : Marks) → Exactly (joined_low x y) (joined_high x y) (λ k v. May (marks_has x) k v ⊎ May (marks_has y) k v)
 joined_exactly x y k v h =
@@ -59,11 +59,6 @@ joined_same x y l h el eh =
 -- the lowest n bits of the first leave no more than those of the second
 Inner : Marks → Marks → ℕ → Type 0
 Inner x j n = (k : ℕ) → k < n → (bit j.low k ≤ bit x.low k) × (bit x.high k ≤ bit j.high k)
-
-pub count_le : (l h n : ℕ) → count_mays l h n ≤ 2 * n
-unfolding count_mays
-count_le l h zero = omega arith
-count_le l h (suc n) = omega (arith, count_le l h n)
 
 count_mono : (x j : Marks) (n : ℕ) → Inner x j n → count_mays x.low x.high n ≤ count_mays j.low j.high n
 unfolding count_mays Inner
