@@ -1,12 +1,12 @@
 -- Ports, and the banks of 256 ports. Assumes nothing.
---   merged m new old   the bits that are 1 in m from new, the others from old
---   Mixed m new old r  the same, bit by bit
---   written v p        the port after v was written: the bits that are 1 in its mask become those of v
---   driven v p         the port after v was driven: its other bits become those of v
---   Ports, port_at ps k the ports of a bank in order, and port k
+--   merged m new old      the bits that are 1 in m from new, the others from old
+--   Mixed m new old r     the same, bit by bit
+--   written v p           the port after v was written: the bits that are 1 in its mask become those of v
+--   driven v p            the port after v was driven: its other bits become those of v
+--   Ports, port_at ps k   the ports of a bank in order, and port k
 --   written_at, driven_at k v ps   the bank after v was written to, or driven on, port k
 --   Merges k new old before after   what became of a bank: at port k the writable bits are those of new and the
---                      others those of old; no mask and no other port changed
+--                         others those of old; no mask and no other port changed
 use Rattle.std.specs.Prelude.{◌≡◌, ℕ, cond, List, map, ◌==◌, ◌≢◌, bit_and, bit_xor, slice_index_or, slice_set}
 use Rattle.bits.specs.Bits.{bit}
 use Rattle.banks.specs.declared.port.Port.{Port}

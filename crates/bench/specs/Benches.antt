@@ -1,7 +1,7 @@
 -- A machine beside its two banks. Assumes nothing.
---   state_at b            what a bench holds
+--   state_at b           what a bench holds
 --   started regs l r     a new machine with these registers, and banks of these ports
---   driven_on s p v st    v driven on port p of one bank: the machine and the other bank unchanged
+--   driven_on s p v st   v driven on port p of one bank: the machine and the other bank unchanged
 use Rattle.std.specs.Prelude.{ℕ, List}
 use Rattle.instructions.specs.declared.field.Side.{Side}
 use Rattle.instructions.specs.declared.field.Side.TheVariants.{Left, Right}

@@ -1,7 +1,7 @@
 -- What the calls on a bench do and answer. Assumes nothing.
---   snapshot_of b           the machine of a bench, and the checksum of each bank
---   called_on code c st     what a call leaves: a drive, a cycle and a run change the state, asking for it does not
---   outcome_of code c b     what a call answers
+--   snapshot_of b         the machine of a bench, and the checksum of each bank
+--   called_on code c st   what a call leaves: a drive, a cycle and a run change the state, asking for it does not
+--   outcome_of code c b   what a call answers
 use Rattle.std.specs.Prelude.{ℕ, List, Ok, Err, Result}
 use Rattle.engine.specs.declared.fault.EngineFault.{EngineFault}
 use Rattle.engine.specs.States as states

@@ -1,8 +1,8 @@
 -- The checksum FNV-1a of 64 bits. Assumes nothing.
---   mixed_with h b     one more byte: it is xored in, and the result multiplied by the prime
---   mixed_all h bs     the bytes one after the other
---   checksum_of bs     the same from the offset basis on
---   port_bytes ps      the bytes on a bank's ports, in order
+--   mixed_with h b   one more byte: it is xored in, and the result multiplied by the prime
+--   mixed_all h bs   the bytes one after the other
+--   checksum_of bs   the same from the offset basis on
+--   port_bytes ps    the bytes on a bank's ports, in order
 use Rattle.std.specs.Prelude.{ℕ, ◌*◌, ◌%◌, ◌^◌, List, [], ◌∷◌, map, bit_xor}
 use Rattle.banks.specs.Ports.{Ports}
 

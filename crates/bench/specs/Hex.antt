@@ -1,6 +1,6 @@
 -- Bytes written in hex. Assumes nothing.
---   digit_value c    what a character stands for: 0 to 9, a to f or A to F; no other one is a digit
---   byte_of word     the byte that a word of one or two digits stands for; no other word is a byte
+--   digit_value c   what a character stands for: 0 to 9, a to f or A to F; no other one is a digit
+--   byte_of word    the byte that a word of one or two digits stands for; no other word is a byte
 use Rattle.std.specs.Prelude.{ℕ, ◌+◌, ◌-◌, ◌*◌, Bool, cond, ◌&&◌, List, length, Some, None, Option, ◌==◌, nat_le, slice_index}
 
 abbrev pub between : ℕ → ℕ → ℕ → Bool

@@ -1,5 +1,5 @@
 -- What a bench is made with. Assumes nothing.
---   unset                nothing has been given: every port has byte 0 and mask 255
+--   unset                 nothing has been given: every port has byte 0 and mask 255
 --   with_registers rs u   these registers, unless others were given before
 --   with_port s k p u     port k of one bank is p
 --   bench_of u            a new machine and its banks; registers that were not given are 0

@@ -1,5 +1,5 @@
 -- The bits of numbers. Assumes nothing.
---   bit n k           bit k of n, counted from the least significant
+--   bit n k            bit k of n, counted from the least significant
 --   carry_into a b k   the carry that comes into bit k where a and b are added
 use Rattle.std.specs.Prelude.{ℕ, zero, suc, ◌+◌, ◌/◌, ◌%◌, ◌^◌}
 

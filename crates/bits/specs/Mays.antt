@@ -5,7 +5,7 @@
 --   OneMay f P k v     v may stand at bit k of what f gives
 --   TwoMay f P Q k v   the same of an operation on two bytes
 --   may_ones f P, may_twos f P Q   the bytes with a possible outcome at each bit
---   may_either P Q      the bytes each of whose bits some member of P or of Q has
+--   may_either P Q     the bytes each of whose bits some member of P or of Q has
 --   mays has some      the kind of operands that these make
 use Rattle.std.specs.Prelude.{◌≡◌, ℕ, zero, suc, ◌+◌, ◌*◌, ◌/◌, ◌%◌, ◌<◌, ◌≤◌, ◌⊎◌}
 use Rattle.operands.specs.Bytes.{Bytes, One, Two, kept_bits}

@@ -1,8 +1,8 @@
 -- What a flow table promises of every list of calls. Assumes nothing.
 --   Withheld grants side k j   the grants withhold bit j of port k of a bank
 --   Held o code grants t st lone   what stands between any two calls: both addresses are inside the code, the table has an
---                      entry at the program counter, whose operands have what the registers hold, and withheld bits are those
---                      of the lone banks
+--                        entry at the program counter, whose operands have what the registers hold, and withheld bits are those
+--                        of the lone banks
 --   Finishes code call st   the call is not refused, except a run that is too long, which changes nothing
 --   Keeps o code grants t calls st lone   all calls of a list finish, and what is held stays held
 --   Promise o code grants t   so it is from a new machine on, whatever its registers and its two banks hold

@@ -1,6 +1,6 @@
 -- Why an image is not accepted. Assumes nothing.
 --   breach_number k   the number of a breach
---   reported f       how a fault is reported: its number and its place; a fault of the file keeps those that the reader gave it
+--   reported f        how a fault is reported: its number and its place; a fault of the file keeps those that the reader gave it
 --   fault_text f      the same as text: the layer, the number, ` at ` and the place, both in decimal
 use Rattle.std.specs.Prelude.{ℕ, List, ◌++◌, codes, decimal}
 use Rattle.image.specs.Faults.{reported as file_reported, fault_text as file_text}

@@ -1,8 +1,8 @@
 -- What the check answers, and what it leaves in the memory. Assumes nothing.
 --   code_of, grants_of file   the two parts of an image, as the header gives them
---   LeastTable o code ..    the least table that keeps the rules stands in the memory
---   Judged o code grants .. the answer for code and grants, over a kind with the operations o, and the memory before and after
---   Checked o file ..       the answer for a file
+--   LeastTable o code ..      the least table that keeps the rules stands in the memory
+--   Judged o code grants ..   the answer for code and grants, over a kind with the operations o, and the memory before and after
+--   Checked o file ..         the answer for a file
 use Rattle.std.specs.Prelude.{◌≡◌, ℕ, ◌*◌, ◌%◌, ◌<◌, ◌≤◌, ◌⊎◌, List, take, drop, Ok, Err, Result, slice_index}
 use Rattle.image.specs.Files.{word_count, code_start, grant_count, grant_start}
 use Rattle.image.specs.Reading.{First, Faultless}

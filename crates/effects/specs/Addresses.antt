@@ -1,7 +1,7 @@
 -- Where the next word stands. Assumes nothing.
---   next_address a      one on; after 8,191 comes 0
---   page_size s         how many addresses NZT and XEC reach by a source: 256 by a register, 32 by a bank field
---   in_page n a v       the address a with v, modulo n, in place of its part below n
+--   next_address a   one on; after 8,191 comes 0
+--   page_size s      how many addresses NZT and XEC reach by a source: 256 by a register, 32 by a bank field
+--   in_page n a v    the address a with v, modulo n, in place of its part below n
 use Rattle.std.specs.Prelude.{ℕ, ◌+◌, ◌*◌, ◌/◌, ◌%◌}
 use Rattle.instructions.specs.declared.instruction.Source.{Source}
 use Rattle.instructions.specs.declared.instruction.Source.TheVariants as source

@@ -1,7 +1,7 @@
 -- What the arithmetic and logic unit gives, over any kind of operands. Assumes nothing.
---   field_bytes o f P        from the bytes P of a port those that the field f reads: rotated right until the field's
+--   field_bytes o f P       from the bytes P of a port those that the field f reads: rotated right until the field's
 --                           lowest bit is bit 7, and as many of the lowest bits kept as the field has
---   result_bytes o op P Q    from the bytes P of a source and the bytes Q of R0 those that an operation gives
+--   result_bytes o op P Q   from the bytes P of a source and the bytes Q of R0 those that an operation gives
 --   Carried o op P Q k      k has the carries, and only ADD has any
 --   field_byte, result_byte, carry_byte   the same for bytes: the carry is 1 if the full sum exceeds 255, else 0
 use Rattle.std.specs.Prelude.{◌≡◌, ℕ, ◌+◌, ◌-◌, cond, Some, None, Option, nat_lt}

@@ -1,6 +1,6 @@
 -- Which bits of a port a field covers. Assumes nothing.
---   raised_by n v  the byte v shifted left by n places; what would stand left of bit 0 is cut off
---   field_mask f   ones in the bits of the field
+--   raised_by n v   the byte v shifted left by n places; what would stand left of bit 0 is cut off
+--   field_mask f    ones in the bits of the field
 use Rattle.std.specs.Prelude.{ℕ, ◌-◌, ◌*◌, ◌%◌, ◌^◌}
 use Rattle.instructions.specs.declared.field.Field.{Field}
 

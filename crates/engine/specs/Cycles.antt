@@ -1,8 +1,8 @@
 -- One cycle. Assumes nothing.
---   core_of m, state_of m l r    what a machine holds, and a machine beside two banks
---   fresh registers            a new machine
---   step_of code st             the word at the address register is run: the answer, and what it leaves
---   cycle_of code reset halt st a cycle: its answer, and what it leaves
+--   core_of m, state_of m l r     what a machine holds, and a machine beside two banks
+--   fresh registers               a new machine
+--   step_of code st               the word at the address register is run: the answer, and what it leaves
+--   cycle_of code reset halt st   a cycle: its answer, and what it leaves
 use Rattle.std.specs.Prelude.{ℕ, ◌%◌, Bool, false, cond, List, Some, None, Ok, Err, Option, Result, nat_lt, slice_index, slice_set}
 use Rattle.instructions.specs.declared.instruction.Instruction.{Instruction}
 use Rattle.words.specs.Words.{meaning}

@@ -1,10 +1,10 @@
 -- What an instruction does to machine and banks, one rule of the manual after the other. Assumes nothing.
---   source_byte s st       the source: a register, rotated right; or a field of its bank's selected port
---   latch_side b f         the bank whose port fills the bits outside a field that is written: that of the data, if they came from one
---   bus_byte f v latch     what is written to the port of a field: the latch, its bits in the field from the result v
+--   source_byte s st     the source: a register, rotated right; or a field of its bank's selected port
+--   latch_side b f       the bank whose port fills the bits outside a field that is written: that of the data, if they came from one
+--   bus_byte f v latch   what is written to the port of a field: the latch, its bits in the field from the result v
 --   delivered, transmitted, overflowed   where results, constants and the carry of ADD go
---   performed i st        machine and banks after the instruction
---   served i c            every bank that the instruction uses is ready
+--   performed i st       machine and banks after the instruction
+--   served i c           every bank that the instruction uses is ready
 use Rattle.std.specs.Prelude.{ℕ, ◌+◌, ◌-◌, ◌%◌, Bool, cond, not, ◌&&◌, ◌||◌, Some, None, Option, ◌==◌}
 use Rattle.instructions.specs.declared.field.Field.{Field}
 use Rattle.instructions.specs.declared.field.Side.{Side}

@@ -1,5 +1,5 @@
 -- Why the engine refuses a call. Assumes nothing.
---   reported f    how a fault is reported: its number, and its place
+--   reported f     how a fault is reported: its number, and its place
 --   fault_text f   the same as text: `engine `, the number, ` at ` and the place, both in decimal
 use Rattle.std.specs.Prelude.{ℕ, List, ◌++◌, codes, decimal}
 use Rattle.engine.specs.declared.fault.EngineFault.{EngineFault}

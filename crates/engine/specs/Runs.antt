@@ -1,8 +1,8 @@
 -- Runs of many cycles. Assumes nothing.
---   Ran                what came of a run: how many cycles it finished, the fault that ended it, if any, and what it left
---   run_of code n st    n cycles with neither line active, one after the other, up to the first fault
---   longest_run         the most cycles of a run
---   run_call code n st  a run: a longer one is refused and changes nothing
+--   Ran                  what came of a run: how many cycles it finished, the fault that ended it, if any, and what it left
+--   run_of code n st     n cycles with neither line active, one after the other, up to the first fault
+--   longest_run          the most cycles of a run
+--   run_call code n st   a run: a longer one is refused and changes nothing
 use Rattle.std.specs.Prelude.{ℕ, zero, suc, ◌+◌, false, cond, List, Some, None, Ok, Err, Option, Result, nat_lt}
 use Rattle.engine.specs.declared.fault.EngineFault.{EngineFault}
 use Rattle.engine.specs.declared.fault.EngineFault.TheVariants.{RunLength}

@@ -1,13 +1,13 @@
 -- What the machine and its two banks hold. Assumes nothing.
---   Core                the processor: sixteen registers, program counter, address register, and for each bank whether it is ready
---   State               the processor and the ports of both banks
---   register r s        what a register holds
---   port_number b s      the number of a bank's selected port, which stands in R7 (left) or R17 (right)
---   port_byte b s        the byte of a bank's selected port
---   stored r v          v stored in a register; a store in R7 or R17 selects a port and makes its bank ready
---   to p a              the program counter becomes p and the address register a
---   with_core f s        f made to the processor, the banks unchanged
---   with_byte b v s      v written to a bank's selected port, the processor and the other bank unchanged
+--   Core              the processor: sixteen registers, program counter, address register, and for each bank whether it is ready
+--   State             the processor and the ports of both banks
+--   register r s      what a register holds
+--   port_number b s   the number of a bank's selected port, which stands in R7 (left) or R17 (right)
+--   port_byte b s     the byte of a bank's selected port
+--   stored r v        v stored in a register; a store in R7 or R17 selects a port and makes its bank ready
+--   to p a            the program counter becomes p and the address register a
+--   with_core f s     f made to the processor, the banks unchanged
+--   with_byte b v s   v written to a bank's selected port, the processor and the other bank unchanged
 use Rattle.std.specs.Prelude.{ℕ, Bool, ◌||◌, List, slice_index, slice_set}
 use Rattle.instructions.specs.declared.field.Side.{Side}
 use Rattle.instructions.specs.declared.field.Side.TheVariants.{Left, Right}

@@ -1,5 +1,5 @@
 -- Where the words stand that can run at an address. Assumes nothing.
---   Hits P n j k    by some byte of P an XEC with the constant j reaches place k of a page of n addresses
+--   Hits P n j k     by some byte of P an XEC with the constant j reaches place k of a page of n addresses
 --   first_target i p, target_count i   the lowest address, and how many there are from it on: p alone, or the page of an XEC
 use Rattle.std.specs.Prelude.{◌≡◌, ℕ, ◌+◌, ◌*◌, ◌/◌, ◌%◌, Some, None, Option}
 use Rattle.operands.specs.Bytes.{Bytes}

@@ -1,12 +1,12 @@
 -- What may stand when a word runs, and what a word makes of it, over any kind of operands. Assumes nothing.
---   State            which bytes each register may hold, by the register's number; and as two parts more, 16 for the left bank
---                    and 17 for the right, whether the bank may be unready: all numbers if so, none if not
---   Fits s u         everything that s allows, u allows
---   Alike s u        both allow the same
+--   State             which bytes each register may hold, by the register's number; and as two parts more, 16 for the left bank
+--                     and 17 for the right, whether the bank may be unready: all numbers if so, none if not
+--   Fits s u          everything that s allows, u allows
+--   Alike s u         both allow the same
 --   stored_in r P s   the bytes P stored in a register; a store in R7 or R17 makes its bank ready
 --   source_bytes o x s   what a source may give: a register's bytes rotated; of a bank any byte may be read
---   after o i s      the state after the instruction i, by the operations of the kind
---   start o          the state in which a machine starts: any bytes, in R10 the lowest bit of any byte, both banks unready
+--   after o i s       the state after the instruction i, by the operations of the kind
+--   start o           the state in which a machine starts: any bytes, in R10 the lowest bit of any byte, both banks unready
 use Rattle.std.specs.Prelude.{ℕ, ◌<◌, cond, Some, None, Option, ◌==◌, nat_lt}
 use Rattle.instructions.specs.declared.field.Side.{Side}
 use Rattle.instructions.specs.declared.field.Side.TheVariants.{Left, Right}

@@ -1,11 +1,11 @@
 -- The flow table and its rules. Assumes nothing.
---   Table K            for each address: whether it has an entry, sixteen operands, and for each bank the mark `may be unready`
---   holds o t p        the state that the entry of an address allows
+--   Table K              for each address: whether it has an entry, sixteen operands, and for each bank the mark `may be unready`
+--   holds o t p          the state that the entry of an address allows
 --   table_of o status operands   the table that the memory holds: sixteen operands a word in the order of the registers, and one
---                      status byte a word, 0 or 1 + 2 × left mark + 4 × right mark
---   FlowsAt o code t p each next address inside the image has an entry that allows the state after the word
---   Rules o code t     what a table owes to the code
---   Under o n t u      below n, the table t has no entry that u lacks, and allows nothing that u does not
+--                        status byte a word, 0 or 1 + 2 × left mark + 4 × right mark
+--   FlowsAt o code t p   each next address inside the image has an entry that allows the state after the word
+--   Rules o code t       what a table owes to the code
+--   Under o n t u        below n, the table t has no entry that u lacks, and allows nothing that u does not
 use Rattle.std.specs.Prelude.{◌≡◌, ℕ, ◌+◌, ◌*◌, ◌/◌, ◌%◌, ◌<◌, Bool, true, cond, List, ◌==◌, nat_lt, slice_index, slice_index_or}
 use Rattle.instructions.specs.declared.instruction.Instruction.{Instruction}
 use Rattle.words.specs.Code.{words_in}

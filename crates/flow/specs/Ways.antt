@@ -1,9 +1,9 @@
 -- Which words run at an address, and where they go on, from a state. Assumes nothing.
 --   instruction_at code a   what the word at an address means
---   RunsAt o code s p a    while the program counter is p, the word at a may run: the word at p itself, or if that is an XEC
---                          each of its targets
---   Runs o code s p i      an instruction other than XEC that runs while the program counter is p
---   Next o i s p q         q may be the next value of the program counter
+--   RunsAt o code s p a     while the program counter is p, the word at a may run: the word at p itself, or if that is an XEC
+--                           each of its targets
+--   Runs o code s p i       an instruction other than XEC that runs while the program counter is p
+--   Next o i s p q          q may be the next value of the program counter
 use Rattle.std.specs.Prelude.{◌≡◌, ℕ, ◌+◌, ◌%◌, ◌<◌, Bool, true, false, ◌⊎◌, List, Some, None, Option, ◌≢◌}
 use Rattle.instructions.specs.declared.instruction.Instruction.{Instruction}
 use Rattle.instructions.specs.declared.instruction.Instruction.TheVariants.{Alu, Xec, Nzt, Xmit, Jmp}

@@ -1,9 +1,9 @@
 -- Why growth ends: what is left to do falls with each word that is sent on. Assumes nothing.
---   sum_below n f       f 0 + f 1 + .. + f (n - 1)
---   marks_in b          how many marks a status byte has
---   weight most b r    what is left to do at a word with the status byte b, whose operands' ranks have the sum r: twice what
---                      ranks and marks can still rise, and one while the word is due
---   load .. n ..       what is left to do at the first n words
+--   sum_below n f     f 0 + f 1 + .. + f (n - 1)
+--   marks_in b        how many marks a status byte has
+--   weight most b r   what is left to do at a word with the status byte b, whose operands' ranks have the sum r: twice what
+--                     ranks and marks can still rise, and one while the word is due
+--   load .. n ..      what is left to do at the first n words
 use Rattle.std.specs.Prelude.{ℕ, zero, suc, ◌+◌, ◌-◌, ◌*◌, ◌/◌, ◌%◌, cond, List, ◌==◌, slice_index, slice_index_or}
 use Rattle.operands.specs.Operations.{Operations}
 

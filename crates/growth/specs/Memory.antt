@@ -1,12 +1,12 @@
 -- The memory in which a table grows: a status byte and sixteen operands a word. Assumes nothing.
 --   Room n status operands   there is room for n words
---   Tidy b             a status byte while the table grows: 0 without an entry, else 1 + 2 × left mark + 4 × right mark, and 8
---                      while the word is due, that is while its entry is still to be sent on to where the word goes
+--   Tidy b                a status byte while the table grows: 0 without an entry, else 1 + 2 × left mark + 4 × right mark, and 8
+--                         while the word is due, that is while its entry is still to be sent on to where the word goes
 --   due_status left right   the status byte of a word that is due
---   Quiet status p     no word below p is due
---   SameAt o x y p     the operands x and y are equal at the word p
---   Kept o n .. ..     what growth leaves alone: what lies past n words, and the operands of each word without an entry
---   entries_in status n how many of the first n words have an entry
+--   Quiet status p        no word below p is due
+--   SameAt o x y p        the operands x and y are equal at the word p
+--   Kept o n .. ..        what growth leaves alone: what lies past n words, and the operands of each word without an entry
+--   entries_in status n   how many of the first n words have an entry
 use Rattle.std.specs.Prelude.{◌≡◌, ℕ, ◌+◌, ◌*◌, ◌%◌, ◌<◌, ◌≤◌, Bool, cond, ◌⊎◌, List, length, ◌==◌, slice_index, slice_index_or}
 use Rattle.operands.specs.Operations.{Operations}
 use Rattle.growth.specs.Measures.{sum_below}

@@ -1,6 +1,6 @@
 -- The faults of a file. Assumes nothing.
 --   reported f      how a fault is reported: its number, and its place in the file
---   fault_text f     the same as text: `file `, the number, ` at ` and the place, both in decimal
+--   fault_text f    the same as text: `file `, the number, ` at ` and the place, both in decimal
 --   Occurs file f   what is wrong with a file that has the fault f
 --   rank f          the order of checking: grants are tried one by one, each by its bytes before its order
 use Rattle.std.specs.Prelude.{◌≡◌, ℕ, suc, ◌+◌, ◌*◌, ◌<◌, ◌≤◌, ◌⊎◌, List, ◌++◌, length, codes, decimal}

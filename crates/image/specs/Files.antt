@@ -1,8 +1,8 @@
 -- Where things stand in an image file. Assumes nothing.
---   number32 file p   the 32-bit number at p, most significant byte first
---   the header        five such numbers: format at 0, word count at 4, code offset at 8, grant count at 12, grant offset at 16
---   entry_place file k where the k-th grant stands: four bytes, which are bank, port, mask and a spare byte
---   key_at file p      the bank and the port of the grant at p as one number, by which grants are ordered
+--   number32 file p      the 32-bit number at p, most significant byte first
+--   the header           five such numbers: format at 0, word count at 4, code offset at 8, grant count at 12, grant offset at 16
+--   entry_place file k   where the k-th grant stands: four bytes, which are bank, port, mask and a spare byte
+--   key_at file p        the bank and the port of the grant at p as one number, by which grants are ordered
 use Rattle.std.specs.Prelude.{ℕ, ◌+◌, ◌*◌, List, slice_index}
 
 abbrev pub number32 : List ℕ → ℕ → ℕ

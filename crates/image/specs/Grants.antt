@@ -1,9 +1,9 @@
 -- Which bits of a port the grants let a program change. Assumes nothing.
---   a grant part      four bytes an entry: bank (0 left, 1 right), port, mask and a spare byte
---   bank_number s      the number that stands for a bank in an entry
---   names g k b p     whether the k-th entry of the grants g is for the bank b and the port p
---   mask_of g s p      the mask of a port: a bit of 1 may be changed, and a port without an entry has mask 0
---   IsMask g s p m    the same as a law: m is the mask of an entry for the port which no later entry is for, and 0 only where there is none
+--   a grant part     four bytes an entry: bank (0 left, 1 right), port, mask and a spare byte
+--   bank_number s    the number that stands for a bank in an entry
+--   names g k b p    whether the k-th entry of the grants g is for the bank b and the port p
+--   mask_of g s p    the mask of a port: a bit of 1 may be changed, and a port without an entry has mask 0
+--   IsMask g s p m   the same as a law: m is the mask of an entry for the port which no later entry is for, and 0 only where there is none
 use Rattle.std.specs.Prelude.{◌≡◌, ℕ, zero, suc, ◌+◌, ◌*◌, ◌/◌, ◌<◌, ◌≤◌, Bool, true, false, cond, ◌&&◌, ◌⊎◌, List, length, ◌==◌, slice_index}
 use Rattle.instructions.specs.declared.field.Side.{Side}
 use Rattle.instructions.specs.declared.field.Side.TheVariants.{Left, Right}

@@ -1,7 +1,7 @@
 -- The parts of a file. Assumes nothing.
 --   part_bytes x, part_place x   the bytes of a part, and where they begin in the file
---   IsCode file start n x      x is code: the file's own n bytes from start on
---   IsGrants file start n x    the same as grants
+--   IsCode file start n x        x is code: the file's own n bytes from start on
+--   IsGrants file start n x      the same as grants
 use Rattle.std.specs.Prelude.{◌≡◌, ℕ, List, length, take, drop}
 use Rattle.image.specs.declared.part.Part.{Part}
 use Rattle.image.specs.declared.part.Part.TheVariants.{Code, Grants}

@@ -1,8 +1,8 @@
 -- What the reader answers. Assumes nothing.
---   Clear file n      no fault that is checked before rank n occurs
---   First file f      the fault f occurs, and none before it
---   Granted, Withheld each entry of the file gives its port its mask, and a port that no entry names has mask 0
---   Read file r       the answer for a file: its two parts where no fault occurs, else the first fault
+--   Clear file n        no fault that is checked before rank n occurs
+--   First file f        the fault f occurs, and none before it
+--   Granted, Withheld   each entry of the file gives its port its mask, and a port that no entry names has mask 0
+--   Read file r         the answer for a file: its two parts where no fault occurs, else the first fault
 use Rattle.std.specs.Prelude.{◌≡◌, ℕ, ◌*◌, ◌<◌, List, Ok, Err, Result, ◌≢◌}
 use Rattle.image.specs.declared.fault.FileFault.{FileFault}
 use Rattle.image.specs.declared.layout.Layout.{Layout}

@@ -1,7 +1,7 @@
 -- The eight classes of instructions. Assumes nothing.
---   class_of i      the class of an instruction
---   class_number c  the number of a class, which stands in bits 0-2 of a word
---   mnemonic_of c   the letters by which a listing has the class
+--   class_of i       the class of an instruction
+--   class_number c   the number of a class, which stands in bits 0-2 of a word
+--   mnemonic_of c    the letters by which a listing has the class
 use Rattle.std.specs.Prelude.{ℕ, List, codes}
 use Rattle.instructions.specs.declared.instruction.Operation.{Operation}
 use Rattle.instructions.specs.declared.instruction.Operation.TheVariants as operation

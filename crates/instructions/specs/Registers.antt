@@ -1,7 +1,7 @@
 -- Registers and their numbers. Assumes nothing.
---   registers    the sixteen registers in the order of their numbers
---   register_of n the register that a number stands for, by its lowest four bits
---   number_of r   the number that stands for a register
+--   registers       the sixteen registers in the order of their numbers
+--   register_of n   the register that a number stands for, by its lowest four bits
+--   number_of r     the number that stands for a register
 use Rattle.std.specs.Prelude.{ℕ, ◌%◌, List, [], ◌∷◌, slice_index_or}
 use Rattle.instructions.specs.declared.register.Register.{Register}
 use Rattle.instructions.specs.declared.register.Register.TheVariants.{R0, R1, R2, R3, R4, R5, R6, R7, R10, R11, R12, R13, R14, R15, R16, R17}

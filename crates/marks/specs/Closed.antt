@@ -2,7 +2,7 @@
 --   open_bits x                 the bits that may be 0 as well as 1
 --   carries_of a b              at each bit the carry that comes into it
 --   open_xor x y, open_sum x y   the bits of the answer that may be 0 as well as 1
---   least_of b o, most_of b o    b, with 0 or with 1 at the bits of o
+--   least_of b o, most_of b o   b, with 0 or with 1 at the bits of o
 --   two_low f x y, two_high f x y   low and high of what f gives
 --   joined_low x y, joined_high x y   low and high of the join
 use Rattle.std.specs.Prelude.{ℕ, ◌+◌, ◌/◌, ◌%◌, bit_and, bit_or, bit_xor}

@@ -1,5 +1,5 @@
 -- Marks as a kind of operands. Assumes nothing.
---   Between l h k v   v lies between bit k of l and bit k of h
+--   Between l h k v    v lies between bit k of l and bit k of h
 --   marks_has x        the bytes each of whose bits lies between those of low and high
 --   all_marks          every bit may be 0 and may be 1
 --   marks_operations   what operations give: each bit on its own (crate bits, specs/Mays.antt)

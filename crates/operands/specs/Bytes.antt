@@ -1,11 +1,11 @@
 -- Bytes, sets of bytes, and what the chip does with bytes. Assumes nothing.
---   Bytes              a set of bytes, as the numbers that are members
---   Inside P Q         every member of P is a member of Q
---   Same P Q           P and Q have the same members
---   Only b, Every      the set of one byte, and the set of all bytes
---   One, one f b       an operation on one byte, and what it gives: rotate right by n, or keep the lowest n bits;
---                      n counts modulo 8, and keep takes 0 as 8
---   Two, two f a b     an operation on two bytes, and what it gives: AND, XOR, and of ADD the sum and the carry
+--   Bytes            a set of bytes, as the numbers that are members
+--   Inside P Q       every member of P is a member of Q
+--   Same P Q         P and Q have the same members
+--   Only b, Every    the set of one byte, and the set of all bytes
+--   One, one f b     an operation on one byte, and what it gives: rotate right by n, or keep the lowest n bits;
+--                    n counts modulo 8, and keep takes 0 as 8
+--   Two, two f a b   an operation on two bytes, and what it gives: AND, XOR, and of ADD the sum and the carry
 use Rattle.std.specs.Prelude.{◌≡◌, ℕ, zero, suc, ◌+◌, ◌-◌, ◌*◌, ◌/◌, ◌%◌, ◌^◌, ◌<◌, bit_and, bit_xor}
 
 abbrev pub Bytes : Type 1

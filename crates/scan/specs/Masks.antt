@@ -1,6 +1,6 @@
 -- The masks that the code has read from the grants. Assumes nothing.
---   mask_in m b k      the mask of a port of the bank b
---   Reads grants m    they are those of the grants
+--   mask_in m b k    the mask of a port of the bank b
+--   Reads grants m   they are those of the grants
 use Rattle.std.specs.Prelude.{◌≡◌, ℕ, ◌<◌, List, slice_index}
 use Rattle.instructions.specs.declared.field.Side.{Side}
 use Rattle.instructions.specs.declared.field.Side.TheVariants.{Left, Right}

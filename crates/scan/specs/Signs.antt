@@ -1,11 +1,11 @@
 -- What shows a breach: the instruction that runs, the word that is reached, the address. Assumes nothing.
---   earlier x y              the one that is told first
---   Strays o n s p i         the instruction i, run at p from the state s, may go on outside an image of n words
+--   earlier x y                the one that is told first
+--   Strays o n s p i           the instruction i, run at p from the state s, may go on outside an image of n words
 --   RunShows o n grants s p i k        the instruction i shows the breach k as it runs there
---   RunsFrom code a i        the word at a is the instruction i, and no XEC
+--   RunsFrom code a i          the word at a is the instruction i, and no XEC
 --   WordShows o code grants s p a k    the word at a shows it as it is reached from p
---   HereShows here s k       what stands at p, `here`, shows it whatever it reaches: it uses a bank that may be unready
---   Below n P                some number below n has P
+--   HereShows here s k         what stands at p, `here`, shows it whatever it reaches: it uses a bank that may be unready
+--   Below n P                  some number below n has P
 --   ShownBelow o code grants s p here a k   `here` shows it, or a word below a that is reached
 use Rattle.std.specs.Prelude.{◌≡◌, ℕ, ◌<◌, ◌≤◌, true, false, cond, ◌⊎◌, List, Some, None, Option, nat_lt}
 use Rattle.instructions.specs.declared.instruction.Instruction.{Instruction}

@@ -1,10 +1,10 @@
 -- AND and XOR with a byte, done by one bit of it at a time. Assumes nothing.
---   mix_of m                     the operation on bytes
---   wanted m                    the bit of the byte that changes a member: 0 for AND, 1 for XOR
---   mixer m j                   the byte that changes bit j alone
---   mixed_bit m p own other      the bit at a place, after bit j was mixed: p is bit j of the place,
---                               own was its bit, and other that of the place whose bit j differs
---   clear_places j               the places below 128 whose bit j is 0, as bits
+--   mix_of m                  the operation on bytes
+--   wanted m                  the bit of the byte that changes a member: 0 for AND, 1 for XOR
+--   mixer m j                 the byte that changes bit j alone
+--   mixed_bit m p own other   the bit at a place, after bit j was mixed: p is bit j of the place,
+--                             own was its bit, and other that of the place whose bit j differs
+--   clear_places j            the places below 128 whose bit j is 0, as bits
 use Rattle.std.specs.Prelude.{ℕ, ◌+◌, ◌-◌, ◌/◌, ◌^◌, min, max}
 use Rattle.operands.specs.Bytes.{Two}
 use Rattle.operands.specs.Bytes.Two.{and, xor}

@@ -1,6 +1,6 @@
 -- Sets of bytes as numbers of 256 bits. Assumes nothing.
---   In n         the set of the bytes whose bits in n are 1
---   number x     the 256 bits of x as one number
+--   In n       the set of the bytes whose bits in n are 1
+--   number x   the 256 bits of x as one number
 use Rattle.std.specs.Prelude.{◌≡◌, ℕ, ◌+◌, ◌*◌, ◌^◌, ◌<◌}
 use Rattle.std.proofs.Common.{⊎_elim, arith, pow-suc, pow_mono}
 use Rattle.std.proofs.lemmas.Nat.{leading_top, div_below, le-div, pow_pos}

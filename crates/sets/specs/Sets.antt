@@ -2,7 +2,7 @@
 --   set_has x        the members of x
 --   set_rank x       how many they are
 --   set_joined x y   the members of x and of y
---   OneOrTwo        the set of 1 and 2
+--   OneOrTwo         the set of 1 and 2
 --   zero_only        the operand whose only member is 0
 --   set_operations, set_lawful   what the kind means: exact answers; and that it keeps the laws
 use Rattle.std.specs.Prelude.{◌≡◌, ℕ, ◌⊎◌, count_ones}

@@ -1,6 +1,6 @@
 -- What is done to members. Assumes nothing.
---   step_of s b    what the step s gives from the byte b
---   op_of o        the operation on two bytes that o names
+--   step_of s b   what the step s gives from the byte b
+--   op_of o       the operation on two bytes that o names
 --   Image f P     the set of what f gives from the members of P
 use Rattle.std.specs.Prelude.{◌≡◌, ℕ}
 use Rattle.operands.specs.Bytes.{Bytes, Two, one}

@@ -1,7 +1,7 @@
 -- A run that is measured from outside. Assumes nothing.
---   begun            a new machine with registers of 0, beside two banks whose ports hold 0 and are writable throughout
---   told r n         what is told of a run: the cycles finished, which are never more than a run can have, and in the lowest eight
---                    bits register n
+--   begun      a new machine with registers of 0, beside two banks whose ports hold 0 and are writable throughout
+--   told r n   what is told of a run: the cycles finished, which are never more than a run can have, and in the lowest eight
+--              bits register n
 use Rattle.std.specs.Prelude.{ℕ, ◌+◌, ◌*◌, ◌%◌, min, get_or, replicate}
 use Rattle.banks.specs.Ports.{Ports, stored}
 use Rattle.engine.specs.States.{State}

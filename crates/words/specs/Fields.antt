@@ -1,7 +1,7 @@
 -- Bank fields as words code them. Assumes nothing.
---   side_of n    the bank of a number from o20 to o37: below o30 the left one
---   length_of l  the length of a field that is coded as l: 0 means 8
---   field_of n l the field of a number from o20 to o37 and a length code; the last octal digit is the bit
+--   side_of n      the bank of a number from o20 to o37: below o30 the left one
+--   length_of l    the length of a field that is coded as l: 0 means 8
+--   field_of n l   the field of a number from o20 to o37 and a length code; the last octal digit is the bit
 use Rattle.std.specs.Prelude.{ℕ, zero, suc, ◌%◌, ◌<◌, ◌≤◌, cond, nat_lt}
 use Rattle.std.proofs.Common.{arith}
 use Rattle.instructions.specs.declared.field.Field.{Field}

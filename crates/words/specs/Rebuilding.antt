@@ -1,6 +1,6 @@
 -- The word of an instruction. Assumes nothing.
 --   Rebuilt i r    r is a word exactly if that word means the instruction i, so it is none exactly if no word does
---   parts_word i    the word that the parts of an instruction make, whether or not it means the instruction
+--   parts_word i   the word that the parts of an instruction make, whether or not it means the instruction
 use Rattle.std.specs.Prelude.{◌≡◌, ℕ, ◌+◌, ◌*◌, ◌%◌, ◌<◌, Some, Option}
 use Rattle.instructions.specs.declared.field.Field.{Field}
 use Rattle.instructions.specs.declared.field.Side.{Side}

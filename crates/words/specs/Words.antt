@@ -1,8 +1,8 @@
 -- What an instruction word means. Assumes nothing.
---   opcode, S, L, D    the four parts of a word: bits 0-2, 3-7, 8-10 and 11-15; bit 0 is the most significant one
---   meaning w          the instruction that a word means, or none
---   Alone w r          no word but w means what r is, if it is an instruction
---   permitted w        whether the manual permits the word
+--   opcode, S, L, D     the four parts of a word: bits 0-2, 3-7, 8-10 and 11-15; bit 0 is the most significant one
+--   meaning w           the instruction that a word means, or none
+--   Alone w r           no word but w means what r is, if it is an instruction
+--   permitted w         whether the manual permits the word
 --   permitted_below n   how many words below n are permitted
 use Rattle.std.specs.Prelude.{◌≡◌, ℕ, zero, suc, ◌+◌, ◌*◌, ◌/◌, ◌%◌, ◌<◌, Bool, cond, not, ◌&&◌, ◌||◌, Some, None, Option, ◌==◌, nat_lt}
 use Rattle.instructions.specs.declared.instruction.Source.{Source}
