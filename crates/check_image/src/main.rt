@@ -15,6 +15,7 @@ use std::alloc::Global;
 use std::fs::File;
 use std::io;
 use std::io::Read;
+use std::process::ExitCode;
 
 // A file's bytes. Of a file that is too long only as many as show that.
 fn bytes_of<R: Read + Drop>(heap: Global, source: R) -> io::Result<Vec<u8>> {
@@ -74,17 +75,17 @@ fn run(rt: &HostRuntime, options: Options) -> anyhow::Result<bool> {
     }
 }
 
-fn main(rt: HostRuntime) -> anyhow::Result<()> {
+fn main(rt: HostRuntime) -> anyhow::Result<ExitCode> {
     let Some(options) = read_options(&rt)? else {
         eprintln!(rt; "{USAGE}")?;
-        return Err(anyhow!("wrong argument"));
+        return Ok(ExitCode::FAILURE);
     };
     match run(&rt, options) {
-        Ok(true) => Ok(()),
-        Ok(false) => Err(anyhow!("not accepted")),
+        Ok(true) => Ok(ExitCode::SUCCESS),
+        Ok(false) => Ok(ExitCode::FAILURE),
         Err(error) => {
             eprintln!(rt; "check_image: {error}")?;
-            Err(error)
+            Ok(ExitCode::FAILURE)
         }
     }
 }

@@ -8,6 +8,7 @@ use listing::Listing;
 use std::alloc::Global;
 use std::fs::File;
 use std::io::{BufWriter, Read, Write};
+use std::process::ExitCode;
 use std::{env, io};
 
 #[derive(Clone, Copy)]
@@ -66,13 +67,13 @@ fn run(rt: &HostRuntime) -> anyhow::Result<Outcome> {
     Ok(outcome)
 }
 
-fn main(rt: HostRuntime) -> anyhow::Result<()> {
+fn main(rt: HostRuntime) -> io::Result<ExitCode> {
     match run(&rt) {
-        Ok(Outcome::Listed) => Ok(()),
-        Ok(Outcome::Refused) => Err(anyhow!("the file is refused")),
+        Ok(Outcome::Listed) => Ok(ExitCode::SUCCESS),
+        Ok(Outcome::Refused) => Ok(ExitCode::FAILURE),
         Err(error) => {
             eprintln!(rt; "list_image: {error}")?;
-            Err(error)
+            Ok(ExitCode::FAILURE)
         }
     }
 }

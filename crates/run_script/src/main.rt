@@ -8,6 +8,7 @@ use image::{MOST_BYTES, read};
 use scripts::play;
 use std::fs::File;
 use std::io::{BufWriter, Read, Write};
+use std::process::ExitCode;
 use std::{env, io};
 
 #[derive(Clone, Copy)]
@@ -77,13 +78,13 @@ fn run(rt: &HostRuntime) -> anyhow::Result<Outcome> {
     }
 }
 
-fn main(rt: HostRuntime) -> anyhow::Result<()> {
+fn main(rt: HostRuntime) -> io::Result<ExitCode> {
     match run(&rt) {
-        Ok(Outcome::Played) => Ok(()),
-        Ok(Outcome::Refused) => Err(anyhow!("the file is refused")),
+        Ok(Outcome::Played) => Ok(ExitCode::SUCCESS),
+        Ok(Outcome::Refused) => Ok(ExitCode::FAILURE),
         Err(error) => {
             eprintln!(rt; "run_script: {error}")?;
-            Err(error)
+            Ok(ExitCode::FAILURE)
         }
     }
 }
