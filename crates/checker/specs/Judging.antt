@@ -4,7 +4,7 @@
 --   Judged o code grants ..   the answer for code and grants, over a kind with the operations o, and the memory before and after
 --   Checked o file ..         the answer for a file
 use Rattle.std.specs.Prelude.{◌≡◌, ℕ, ◌*◌, ◌%◌, ◌<◌, ◌≤◌, ◌⊎◌, List, take, drop, Ok, Err, Result, slice_index}
-use Rattle.image.specs.Files.{word_count, code_start, grant_count, grant_start}
+use Rattle.image.specs.Files.{word_count, start_of_code, count_of_grants, start_of_grants}
 use Rattle.image.specs.Reading.{First, Faultless}
 use Rattle.image.specs.declared.fault.FileFault.{FileFault}
 use Rattle.words.specs.Code.{words_in}
@@ -23,10 +23,10 @@ use Rattle.checker.specs.declared.fault.CheckFault.TheVariants as fault
 use Rattle.checker.specs.declared.acceptance.Acceptance.{Acceptance}
 
 abbrev pub code_of : List ℕ → List ℕ
-code_of file = take (2 * word_count file) (drop (code_start file) file)
+code_of file = take (2 * word_count file) (drop (start_of_code file) file)
 
 abbrev pub grants_of : List ℕ → List ℕ
-grants_of file = take (4 * grant_count file) (drop (grant_start file) file)
+grants_of file = take (4 * count_of_grants file) (drop (start_of_grants file) file)
 
 abbrev pub Answer : Type 0
 Answer = Result Acceptance CheckFault

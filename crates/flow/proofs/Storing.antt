@@ -107,8 +107,8 @@ module _ {K : Type 0} (o : Operations K) where
       (λ g. let w = side_part k g h in subst (λ i. Same (allows o f i) (selected b s i)) (sym w.1) (mark w.0))
       (cases_lt k 16))
 
-  get_d_start : (all low : K) (k : ℕ) → k < 16 → (k ≡ 8 → get_or (set (replicate 16 all) 8 low) k o.some ≡ low) × (k ≢ 8 → get_or (set (replicate 16 all) 8 low) k o.some ≡ all)
-  get_d_start all low k h =
+  get_or_start : (all low : K) (k : ℕ) → k < 16 → (k ≡ 8 → get_or (set (replicate 16 all) 8 low) k o.some ≡ low) × (k ≢ 8 → get_or (set (replicate 16 all) 8 low) k o.some ≡ all)
+  get_or_start all low k h =
       let xs = replicate 16 all in (
         (λ e. ap (λ i. get_or (set xs 8 low) i o.some) e ∙ get_or-set_same xs 8 low o.some (omega (arith, length-replicate 16 all))),
         (λ n. get_or-set_other xs 8 k low o.some n ∙ get_or-replicate 16 k all o.some h),
@@ -120,7 +120,7 @@ module _ {K : Type 0} (o : Operations K) where
       alike_parts (allows o e) (start o)
       (λ k h. ⊎_elim
       (λ l.
-      let cell = get_d_start all low k l in
+      let cell = get_or_start all low k l in
       let read : get_or e.operands k o.some ≡ get_or (set (replicate 16 all) 8 low) k o.some = ap (λ (xs : List K). get_or xs k o.some) eo in
       same_trans _ _ _ (same_sym _ _ (allows_register e k l))
       (same_trans _ _ _

@@ -2,7 +2,7 @@
 use Rattle.std.proofs.Common.{◌≡◌, ℕ, zero, suc, ◌+◌, ◌*◌, ◌<◌, ◌≤◌, List, length, sym, refl, subst, inl, inr, add-one, arith}
 use Rattle.image.specs.declared.fault.FileFault.{FileFault}
 use Rattle.image.specs.declared.fault.FileFault.TheVariants.{CodePlace, GrantPlace, Order}
-use Rattle.image.specs.Files.{code_end, grant_count, grant_end, entry_place, key_at}
+use Rattle.image.specs.Files.{end_of_code, count_of_grants, end_of_grants, entry_place, key_at}
 use Rattle.image.specs.Entries.{IsSound, IsKey, IsRefused}
 use Rattle.image.specs.Reading.{Clear, First, Faultless}
 
@@ -24,13 +24,13 @@ pub record Tried (file : List ℕ) (k least : ℕ) : Type 0 where
   pub clear : Clear file (8 + 2 * entry_place file k)
   pub key : least ≡ least_key file k
 
-pub code_end_le_length : (file : List ℕ) → Clear file 8 → code_end file ≤ length file
-code_end_le_length file clear =
-    let no : length file < code_end file → ⊥ = λ h. clear CodePlace (inr h) (omega arith) in omega arith
+pub end_of_code_le_length : (file : List ℕ) → Clear file 8 → end_of_code file ≤ length file
+end_of_code_le_length file clear =
+    let no : length file < end_of_code file → ⊥ = λ h. clear CodePlace (inr h) (omega arith) in omega arith
 
-pub grant_end_le_length : (file : List ℕ) → Clear file 8 → grant_end file ≤ length file
-grant_end_le_length file clear =
-    let no : length file < grant_end file → ⊥ = λ h. clear GrantPlace (inr h) (omega arith) in omega arith
+pub end_of_grants_le_length : (file : List ℕ) → Clear file 8 → end_of_grants file ≤ length file
+end_of_grants_le_length file clear =
+    let no : length file < end_of_grants file → ⊥ = λ h. clear GrantPlace (inr h) (omega arith) in omega arith
 
 pub tried_none : (file : List ℕ) → Clear file 8 → Tried file 0 0
 tried_none file clear = record { clear = λ g h lt. grind arith; key = sym (least_key_none file) }
@@ -54,21 +54,21 @@ pub tried_more : (file : List ℕ) (k least p key : ℕ) → p ≡ entry_place f
 tried_more file k least p key at tried h = tried_key file k least key tried (subst (λ q. IsKey file q least key) at h)
 
 -- an entry that does not follow the one before it
-first_order : (file : List ℕ) (k least : ℕ) → k < grant_count file → Tried file k least → IsSound file (entry_place file k) → key_at file (entry_place file k) < least → First file (Order (entry_place file k))
+first_order : (file : List ℕ) (k least : ℕ) → k < count_of_grants file → Tried file k least → IsSound file (entry_place file k) → key_at file (entry_place file k) < least → First file (Order (entry_place file k))
 unfolding least_key
 first_order file zero least below tried sound falls = absurd (omega (arith, tried.key))
 first_order file (suc j) least below tried sound falls =
     ((j, below, refl, omega (arith, tried.key)), clear_order file (suc j) tried.clear sound)
 
-first_entry : (file : List ℕ) (k least : ℕ) (f : FileFault) → k < grant_count file → Tried file k least → IsRefused file (entry_place file k) least f → First file f
+first_entry : (file : List ℕ) (k least : ℕ) (f : FileFault) → k < count_of_grants file → Tried file k least → IsRefused file (entry_place file k) least f → First file f
 first_entry file k least f below tried (inl (is, why)) = subst (First file) (sym is) ((k, below, refl, why), tried.clear)
 first_entry file k least f below tried (inr (is, sound, falls)) =
     subst (First file) (sym is) (first_order file k least below tried sound falls)
 
 -- the first entry that is refused has the first fault
-pub first_refused : (file : List ℕ) (k least p : ℕ) (f : FileFault) → p ≡ entry_place file k → k < grant_count file → Tried file k least → IsRefused file p least f → First file f
+pub first_refused : (file : List ℕ) (k least p : ℕ) (f : FileFault) → p ≡ entry_place file k → k < count_of_grants file → Tried file k least → IsRefused file p least f → First file f
 first_refused file k least p f at below tried h =
     first_entry file k least f below tried (subst (λ q. IsRefused file q least f) at h)
 
-pub tried_all : (file : List ℕ) (least : ℕ) → Tried file (grant_count file) least → Faultless file
+pub tried_all : (file : List ℕ) (least : ℕ) → Tried file (count_of_grants file) least → Faultless file
 tried_all file least tried g h = grind arith

@@ -6,7 +6,7 @@
 use Rattle.std.specs.Prelude.{◌≡◌, ℕ, suc, ◌+◌, ◌*◌, ◌<◌, ◌≤◌, ◌⊎◌, List, ◌++◌, length, codes, decimal}
 use Rattle.image.specs.declared.fault.FileFault.{FileFault}
 use Rattle.image.specs.declared.fault.FileFault.TheVariants.{Size, Format, WordCount, CodePlace, GrantCount, GrantPlace, Overlap, Entry, Order}
-use Rattle.image.specs.Files.{format, word_count, code_start, code_end, grant_count, grant_start, grant_end, entry_place, bank_at, spare_at, key_at}
+use Rattle.image.specs.Files.{format, word_count, start_of_code, end_of_code, count_of_grants, start_of_grants, end_of_grants, entry_place, bank_at, spare_at, key_at}
 
 abbrev pub reported : FileFault → ℕ × ℕ
 reported Size = (1, 0)
@@ -26,15 +26,15 @@ abbrev pub Occurs : List ℕ → FileFault → Type 0
 Occurs file Size = (length file < 20) ⊎ (32768 < length file)
 Occurs file Format = format file ≡ 1 → ⊥
 Occurs file WordCount = (word_count file ≡ 0) ⊎ (8192 < word_count file)
-Occurs file CodePlace = (code_start file < 20) ⊎ (length file < code_end file)
-Occurs file GrantCount = 512 < grant_count file
-Occurs file GrantPlace = (grant_start file < 20) ⊎ (length file < grant_end file)
+Occurs file CodePlace = (start_of_code file < 20) ⊎ (length file < end_of_code file)
+Occurs file GrantCount = 512 < count_of_grants file
+Occurs file GrantPlace = (start_of_grants file < 20) ⊎ (length file < end_of_grants file)
 Occurs file Overlap =
-    (b : ℕ) × (code_start file ≤ b) × (b < code_end file) × (grant_start file ≤ b) × (b < grant_end file)
+    (b : ℕ) × (start_of_code file ≤ b) × (b < end_of_code file) × (start_of_grants file ≤ b) × (b < end_of_grants file)
 Occurs file (Entry p) =
-    (k : ℕ) × (k < grant_count file) × (p ≡ entry_place file k) × ((1 < bank_at file p) ⊎ (0 < spare_at file p))
+    (k : ℕ) × (k < count_of_grants file) × (p ≡ entry_place file k) × ((1 < bank_at file p) ⊎ (0 < spare_at file p))
 Occurs file (Order p) =
-    (k : ℕ) × (suc k < grant_count file) × (p ≡ entry_place file (suc k)) × (key_at file p ≤ key_at file (entry_place file k))
+    (k : ℕ) × (suc k < count_of_grants file) × (p ≡ entry_place file (suc k)) × (key_at file p ≤ key_at file (entry_place file k))
 
 abbrev pub rank : FileFault → ℕ
 rank Size = 1

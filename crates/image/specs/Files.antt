@@ -15,23 +15,23 @@ format file = number32 file 0
 abbrev pub word_count : List ℕ → ℕ
 word_count file = number32 file 4
 
-abbrev pub code_start : List ℕ → ℕ
-code_start file = number32 file 8
+abbrev pub start_of_code : List ℕ → ℕ
+start_of_code file = number32 file 8
 
-abbrev pub code_end : List ℕ → ℕ
-code_end file = code_start file + 2 * word_count file
+abbrev pub end_of_code : List ℕ → ℕ
+end_of_code file = start_of_code file + 2 * word_count file
 
-abbrev pub grant_count : List ℕ → ℕ
-grant_count file = number32 file 12
+abbrev pub count_of_grants : List ℕ → ℕ
+count_of_grants file = number32 file 12
 
-abbrev pub grant_start : List ℕ → ℕ
-grant_start file = number32 file 16
+abbrev pub start_of_grants : List ℕ → ℕ
+start_of_grants file = number32 file 16
 
-abbrev pub grant_end : List ℕ → ℕ
-grant_end file = grant_start file + 4 * grant_count file
+abbrev pub end_of_grants : List ℕ → ℕ
+end_of_grants file = start_of_grants file + 4 * count_of_grants file
 
 abbrev pub entry_place : List ℕ → ℕ → ℕ
-entry_place file k = grant_start file + 4 * k
+entry_place file k = start_of_grants file + 4 * k
 
 -- the bytes of the entry at p
 abbrev pub bank_at : List ℕ → ℕ → ℕ

@@ -8,7 +8,7 @@ use Rattle.image.specs.declared.fault.FileFault.{FileFault}
 use Rattle.image.specs.declared.layout.Layout.{Layout}
 use Rattle.image.specs.declared.part.Image.{Image}
 use Rattle.instructions.specs.declared.field.Side.{Side}
-use Rattle.image.specs.Files.{word_count, code_start, code_end, grant_count, grant_start, grant_end, entry_place, bank_at, port_at, mask_at}
+use Rattle.image.specs.Files.{word_count, start_of_code, end_of_code, count_of_grants, start_of_grants, end_of_grants, entry_place, bank_at, port_at, mask_at}
 use Rattle.image.specs.Faults.{Occurs, rank}
 use Rattle.image.specs.Grants.{bank_number, mask_of}
 use Rattle.image.specs.Parts.{IsCode, IsGrants, part_bytes}
@@ -24,16 +24,16 @@ Faultless file = (g : FileFault) → Occurs file g → ⊥
 
 abbrev pub Granted : List ℕ → List ℕ → Type 0
 Granted file grants =
-    (k : ℕ) → k < grant_count file → (s : Side) → bank_number s ≡ bank_at file (entry_place file k) → mask_of grants s (port_at file (entry_place file k)) ≡ mask_at file (entry_place file k)
+    (k : ℕ) → k < count_of_grants file → (s : Side) → bank_number s ≡ bank_at file (entry_place file k) → mask_of grants s (port_at file (entry_place file k)) ≡ mask_at file (entry_place file k)
 
 abbrev pub Withheld : List ℕ → List ℕ → Type 0
 Withheld file grants =
-    (s : Side) (port : ℕ) → ((k : ℕ) → k < grant_count file → bank_number s ≡ bank_at file (entry_place file k) → port ≢ port_at file (entry_place file k)) → mask_of grants s port ≡ 0
+    (s : Side) (port : ℕ) → ((k : ℕ) → k < count_of_grants file → bank_number s ≡ bank_at file (entry_place file k) → port ≢ port_at file (entry_place file k)) → mask_of grants s port ≡ 0
 
 -- the two parts of a file that has no fault, and what its grants let a program change
 pub record IsImage (file : List ℕ) (image : Image) : Type 0 where
-  pub code : IsCode file (code_start file) (2 * word_count file) image.code
-  pub grants : IsGrants file (grant_start file) (4 * grant_count file) image.grants
+  pub code : IsCode file (start_of_code file) (2 * word_count file) image.code
+  pub grants : IsGrants file (start_of_grants file) (4 * count_of_grants file) image.grants
   pub granted : Granted file (part_bytes image.grants)
   pub withheld : Withheld file (part_bytes image.grants)
 
@@ -48,11 +48,11 @@ Read file (Err fault) = First file fault
 
 -- the first seven checks: where the parts lie
 pub record IsLayout (file : List ℕ) (x : Layout) : Type 0 where
-  pub code_start : x.code_start ≡ code_start file
-  pub code_end : x.code_end ≡ code_end file
-  pub grant_start : x.grant_start ≡ grant_start file
-  pub grant_count : x.grant_count ≡ grant_count file
-  pub grant_end : x.grant_end ≡ grant_end file
+  pub code_start : x.code_start ≡ start_of_code file
+  pub code_end : x.code_end ≡ end_of_code file
+  pub grant_start : x.grant_start ≡ start_of_grants file
+  pub grant_count : x.grant_count ≡ count_of_grants file
+  pub grant_end : x.grant_end ≡ end_of_grants file
 
 abbrev pub Laid : List ℕ → Result Layout FileFault → Type 0
 Laid file (Ok x) = Clear file 8 × IsLayout file x

@@ -1,13 +1,13 @@
 use Rattle.std.proofs.Common.{arith}
 use Rattle.std.proofs.lemmas.Result.{err_from_is_err_and}
-use Rattle.image.proofs.Ranks.{grant_end_le_length, tried_none, tried_more, first_refused}
+use Rattle.image.proofs.Ranks.{end_of_grants_le_length, tried_none, tried_more, first_refused}
 use Rattle.image.proofs.entries.try_entries.Goals as goal
 
 pub loop-k-init : goal.loop-k-init
 loop-k-init c = tried_none _ c.requires.0
 
 pub try_entry-requires : goal.try_entry-requires
-try_entry-requires c = omega (arith, grant_end_le_length _ c.requires.0)
+try_entry-requires c = omega (arith, end_of_grants_le_length _ c.requires.0)
 
 pub returns-in_err-key : goal.returns-in_err-key
 returns-in_err-key c =
