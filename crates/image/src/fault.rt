@@ -2,6 +2,7 @@
 ghost use Rattle.std.specs.Prelude.{◌≡◌, Some};
 ghost use Rattle.image.specs.Faults.{reported, fault_text};
 
+use faults::Fault;
 use std::fmt;
 
 #[derive(Clone, Copy, PartialEq, Eq, Debug)]
@@ -26,11 +27,13 @@ pub enum FileFault {
     Order { place: usize },
 }
 
-impl FileFault {
-    // How the fault is reported: its number and its place.
-    fn report(self) -> (u8, usize)
-        ensures { result ≡ reported self }
-    {
+impl Fault for FileFault {
+    // a byte of the file
+    type Place = usize;
+
+    ghost reported = { reported };
+
+    fn report(self) -> (u8, usize) {
         match self {
             FileFault::Size => (1, 0),
             FileFault::Format => (2, 0),
@@ -42,19 +45,6 @@ impl FileFault {
             FileFault::Entry { place } => (8, place),
             FileFault::Order { place } => (9, place),
         }
-    }
-
-    pub fn number(self) -> u8
-        ensures { result ≡ (reported self).0 }
-    {
-        self.report().0
-    }
-
-    // The byte of the file at which the fault is reported.
-    pub fn place(self) -> usize
-        ensures { result ≡ (reported self).1 }
-    {
-        self.report().1
     }
 }
 
