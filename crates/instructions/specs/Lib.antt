@@ -1,2 +1,3 @@
 pub mod Registers
 pub mod Classes
+pub mod Operands

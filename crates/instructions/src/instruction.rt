@@ -1,6 +1,7 @@
 // What a word can say.
-ghost use Rattle.std.specs.Prelude.{◌≡◌};
+ghost use Rattle.std.specs.Prelude.{◌≡◌, ◌%◌};
 ghost use Rattle.instructions.specs.Classes.{operation_class, class_of, class_number, mnemonic_of};
+ghost use Rattle.instructions.specs.Operands.{source_field, destination_field};
 
 use crate::field::Field;
 use crate::register::Register;
@@ -71,6 +72,22 @@ impl Class {
         self as u8
     }
 
+    // The class that a number stands for, by its lowest three bits.
+    pub fn of(number: u8) -> Class
+        ensures { class_number result ≡ number % 8 }
+    {
+        match number % 8 {
+            0 => Class::Move,
+            1 => Class::Add,
+            2 => Class::And,
+            3 => Class::Xor,
+            4 => Class::Xec,
+            5 => Class::Nzt,
+            6 => Class::Xmit,
+            _ => Class::Jmp,
+        }
+    }
+
     // The name by which a listing has the class.
     pub fn mnemonic(self) -> &'static str
         ensures { result.now ≡ mnemonic_of self }
@@ -84,6 +101,30 @@ impl Class {
             Class::Nzt => "NZT",
             Class::Xmit => "XMIT",
             Class::Jmp => "JMP",
+        }
+    }
+}
+
+impl Source {
+    // The bank field, or none of a register.
+    pub fn field(self) -> Option<Field>
+        ensures { result ≡ source_field self }
+    {
+        match self {
+            Source::Register { .. } => None,
+            Source::Field(field) => Some(field),
+        }
+    }
+}
+
+impl Destination {
+    // The bank field, or none of a register.
+    pub fn field(self) -> Option<Field>
+        ensures { result ≡ destination_field self }
+    {
+        match self {
+            Destination::Register(_) => None,
+            Destination::Field(field) => Some(field),
         }
     }
 }

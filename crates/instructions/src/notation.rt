@@ -1,7 +1,7 @@
 // Instructions as people of the chip write them: `MOVE R4(5),R4`, `MOVE LIV4,3,R2`, `XEC 40(R1)`, `XMIT 5,R7`.
 // Numbers are octal. LIV and RIV with a digit are a field of the left or the right bank by its lowest bit;
 // the length of a field stands between the operands, where the word has it.
-use crate::field::Side;
+use crate::field::{Field, Side};
 use crate::instruction::{Class, Destination, Instruction, Source};
 use crate::register::Register;
 use std::fmt;
@@ -28,6 +28,17 @@ impl fmt::Display for Side {
     }
 }
 
+// The bank and the lowest bit.
+impl fmt::Display for Field {
+    fn fmt<W: fmt::Write>(&self, f: &mut fmt::Formatter<W>) -> fmt::Result {
+        let bit = self.bit;
+        match self.side {
+            Side::Left => write!(f, "LIV{bit:o}"),
+            Side::Right => write!(f, "RIV{bit:o}"),
+        }
+    }
+}
+
 impl fmt::Display for Source {
     fn fmt<W: fmt::Write>(&self, f: &mut fmt::Formatter<W>) -> fmt::Result {
         match *self {
@@ -36,7 +47,7 @@ impl fmt::Display for Source {
                 rotate: 0,
             } => write!(f, "{register}"),
             Source::Register { register, rotate } => write!(f, "{register}({rotate:o})"),
-            Source::Field(field) => write_field(f, field.side, field.bit),
+            Source::Field(field) => write!(f, "{field}"),
         }
     }
 }
@@ -45,36 +56,15 @@ impl fmt::Display for Destination {
     fn fmt<W: fmt::Write>(&self, f: &mut fmt::Formatter<W>) -> fmt::Result {
         match *self {
             Destination::Register(register) => write!(f, "{register}"),
-            Destination::Field(field) => write_field(f, field.side, field.bit),
+            Destination::Field(field) => write!(f, "{field}"),
         }
     }
 }
 
-fn write_field<W: fmt::Write>(f: &mut fmt::Formatter<W>, side: Side, bit: u8) -> fmt::Result {
-    match side {
-        Side::Left => write!(f, "LIV{bit:o}"),
-        Side::Right => write!(f, "RIV{bit:o}"),
-    }
-}
-
-// The length that an instruction's word codes, if it has a bank field.
-fn source_field_length(source: Source) -> Option<u8> {
-    match source {
-        Source::Register { .. } => None,
-        Source::Field(field) => Some(field.length),
-    }
-}
-
-fn destination_field_length(destination: Destination) -> Option<u8> {
-    match destination {
-        Destination::Register(_) => None,
-        Destination::Field(field) => Some(field.length),
-    }
-}
-
-fn write_length<W: fmt::Write>(f: &mut fmt::Formatter<W>, length: Option<u8>) -> fmt::Result {
-    match length {
-        Some(length) => write!(f, ",{length:o}"),
+// The length of a field, which the word codes.
+fn write_length<W: fmt::Write>(f: &mut fmt::Formatter<W>, field: Option<Field>) -> fmt::Result {
+    match field {
+        Some(Field { length, .. }) => write!(f, ",{length:o}"),
         None => Ok(()),
     }
 }
@@ -89,20 +79,17 @@ impl fmt::Display for Instruction {
                 destination,
             } => {
                 write!(f, "{class} {source}")?;
-                write_length(
-                    f,
-                    source_field_length(source).or(destination_field_length(destination)),
-                )?;
+                write_length(f, source.field().or(destination.field()))?;
                 write!(f, ",{destination}")
             }
             Instruction::Xec { source, offset } => {
                 write!(f, "{class} {offset:o}({source}")?;
-                write_length(f, source_field_length(source))?;
+                write_length(f, source.field())?;
                 f.write_str(")")
             }
             Instruction::Nzt { source, offset } => {
                 write!(f, "{class} {source}")?;
-                write_length(f, source_field_length(source))?;
+                write_length(f, source.field())?;
                 write!(f, ",{offset:o}")
             }
             Instruction::Xmit {
@@ -110,7 +97,7 @@ impl fmt::Display for Instruction {
                 destination,
             } => {
                 write!(f, "{class} {constant:o}")?;
-                write_length(f, destination_field_length(destination))?;
+                write_length(f, destination.field())?;
                 write!(f, ",{destination}")
             }
             Instruction::Jmp { address } => write!(f, "{class} {address:o}"),

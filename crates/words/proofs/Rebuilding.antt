@@ -1,9 +1,10 @@
 -- The parts of what a word means make the word again. Assumes nothing.
-use Rattle.std.proofs.Common.{◌≡◌, ℕ, ◌/◌, ◌%◌, ◌<◌, Some, None, Option, sym, ◌∙◌, arith}
+use Rattle.std.proofs.Common.{◌≡◌, ℕ, ◌/◌, ◌%◌, ◌<◌, Bool, cond, Some, None, Option, is_some, sym, ap, ◌∙◌, arith}
+use Rattle.std.specs.Option.{MatchOption}
 use Rattle.std.proofs.lemmas.Bool.Decides.{nat_tests}
 use Rattle.instructions.specs.declared.instruction.Instruction.{Instruction}
-use Rattle.words.specs.Words.{alu_of, xec_of, nzt_of, xmit_of, meaning_of, meaning, Alone}
-use Rattle.words.specs.Rebuilding.{word_of, parts_word}
+use Rattle.words.specs.Words.{alu_of, xec_of, nzt_of, xmit_of, meaning_of, meaning, permitted, Alone}
+use Rattle.words.specs.Rebuilding.{word_of, parts_word, Rebuilt}
 use Rattle.words.proofs.Numbers.{number-register_of, number_field_of, length_field_of}
 
 module _ (s l d : ℕ) (hs : s < 32) (hl : l < 8) (hd : d < 32) (i : Instruction) where
@@ -33,3 +34,9 @@ parts_meaning w i hw h =
 pub meaning_alone : (w : ℕ) (r : Option Instruction) → w < 65536 → meaning w ≡ r → Alone w r
 meaning_alone w None hw h = tt
 meaning_alone w (Some i) hw h = λ v hv g. sym (parts_meaning v i hv g) ∙ parts_meaning w i hw h
+
+-- what is rebuilt of the meaning of a word
+pub rebuilt_of_meaning : (w : ℕ) (o : Option Instruction) (r : Option ℕ) → w < 65536 → o ≡ meaning w → is_some o ≡ permitted w → MatchOption o (r ≡ None) (λ i. Rebuilt i r) → r ≡ cond (permitted w) (Some w) None
+rebuilt_of_meaning w None r small means known h = h ∙ ap (λ (b : Bool). cond b (Some w) None) known
+rebuilt_of_meaning w (Some i) r small means known h =
+    (h w small).1 (sym means) ∙ ap (λ (b : Bool). cond b (Some w) None) known

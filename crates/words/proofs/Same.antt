@@ -1,6 +1,7 @@
 -- A derived `==` answers whether its two values are equal. Assumes nothing.
-use Rattle.std.proofs.Common.{◌≡◌, ℕ, ◌+◌, ◌%◌, ◌<◌, ◌≤◌, Bool, Decides, refl, ap, subst, arith}
+use Rattle.std.proofs.Common.{◌≡◌, ℕ, ◌+◌, ◌%◌, ◌<◌, ◌≤◌, Bool, Option, Some, None, Decides, refl, ap, subst, arith}
 use native.Mathlib.Bridge.{le_prop}
+use Rattle.std.specs.Option.{option_eq}
 use Rattle.std.proofs.lemmas.Bool.Decides.{nat_tests, Decides-at, Decides-like, Decides-and}
 use Rattle.instructions.specs.declared.field.Field.{Field}
 use Rattle.instructions.specs.declared.field.Side.{Side}
@@ -98,3 +99,10 @@ instruction_decides (Jmp a) (Xec t k) r h = grind (arith, source_known, destinat
 instruction_decides (Jmp a) (Nzt t k) r h = grind (arith, source_known, destination_known)
 instruction_decides (Jmp a) (Xmit k e) r h = grind (arith, source_known, destination_known)
 instruction_decides (Jmp a) (Jmp b) r h = grind (arith, source_known, destination_known)
+
+-- so does the `==` of a decoded word and an instruction
+pub meaning_decides : (o : Option Instruction) (i : Instruction) (r : Bool) → (r ≡ option_eq (instruction_eq.ghosts).eq o (Some i)) → Decides r (o ≡ Some i)
+meaning_decides None i r h = grind arith
+meaning_decides (Some x) i r h =
+    let decides = instruction_decides x i r h in
+    (λ t. ap Some (decides.0 t), λ e. let same : x ≡ i = cc in decides.1 same)

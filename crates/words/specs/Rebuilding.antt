@@ -1,7 +1,7 @@
 -- The word of an instruction. Assumes nothing.
 --   Rebuilt i r    r is a word exactly if that word means the instruction i, so it is none exactly if no word does
 --   parts_word i   the word that the parts of an instruction make, whether or not it means the instruction
-use Rattle.std.specs.Prelude.{◌≡◌, ℕ, ◌+◌, ◌*◌, ◌%◌, ◌<◌, Some, Option}
+use Rattle.std.specs.Prelude.{◌≡◌, ℕ, ◌+◌, ◌*◌, ◌%◌, ◌<◌, Some, None, Option}
 use Rattle.instructions.specs.declared.field.Field.{Field}
 use Rattle.instructions.specs.declared.field.Side.{Side}
 use Rattle.instructions.specs.declared.field.Side.TheVariants.{Left, Right}
@@ -12,6 +12,7 @@ use Rattle.instructions.specs.declared.instruction.Destination.TheVariants as de
 use Rattle.instructions.specs.declared.instruction.Instruction.{Instruction}
 use Rattle.instructions.specs.declared.instruction.Instruction.TheVariants.{Alu, Xec, Nzt, Xmit, Jmp}
 use Rattle.instructions.specs.Registers.{number_of}
+use Rattle.instructions.specs.Operands.{source_field, destination_field}
 use Rattle.instructions.specs.Classes.{class_of, class_number}
 use Rattle.words.specs.Words.{meaning}
 
@@ -42,21 +43,17 @@ abbrev pub length_number : Source → Destination → ℕ
 length_number (source.Register r t) d = length_beside t d
 length_number (source.Field f) d = f.length % 8
 
--- what bits 8-10 add to a word beside a constant
-abbrev pub source_length : Source → ℕ
-source_length (source.Register r t) = 0
-source_length (source.Field f) = f.length % 8
-
-abbrev pub destination_length : Destination → ℕ
-destination_length (destination.Register r) = 0
-destination_length (destination.Field f) = f.length % 8
+-- what a bank field, or none, adds to bits 8-10 beside a constant
+abbrev pub coded_length : Option Field → ℕ
+coded_length None = 0
+coded_length (Some f) = f.length % 8
 
 abbrev pub word_of : ℕ → ℕ → ℕ → ℕ → ℕ
 word_of c s l d = c * 8192 + s * 256 + l * 32 + d
 
 abbrev pub parts_word : Instruction → ℕ
 parts_word (Alu o s d) = word_of (class_number (class_of (Alu o s d))) (source_number s) (length_number s d) (destination_number d)
-parts_word (Xec s j) = word_of 4 (source_number s) (source_length s) j
-parts_word (Nzt s j) = word_of 5 (source_number s) (source_length s) j
-parts_word (Xmit j d) = word_of 6 (destination_number d) (destination_length d) j
+parts_word (Xec s j) = word_of 4 (source_number s) (coded_length (source_field s)) j
+parts_word (Nzt s j) = word_of 5 (source_number s) (coded_length (source_field s)) j
+parts_word (Xmit j d) = word_of 6 (destination_number d) (coded_length (destination_field d)) j
 parts_word (Jmp a) = word_of 7 0 0 (a % 8192)

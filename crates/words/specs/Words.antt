@@ -4,7 +4,8 @@
 --   Alone w r           no word but w means what r is, if it is an instruction
 --   permitted w         whether the manual permits the word
 --   permitted_below n   how many words below n are permitted
-use Rattle.std.specs.Prelude.{◌≡◌, ℕ, zero, suc, ◌+◌, ◌*◌, ◌/◌, ◌%◌, ◌<◌, Bool, cond, not, ◌&&◌, ◌||◌, Some, None, Option, ◌==◌, nat_lt}
+use Rattle.std.specs.Prelude.{◌≡◌, ℕ, ◌+◌, ◌*◌, ◌/◌, ◌%◌, ◌<◌, Bool, cond, not, ◌&&◌, ◌||◌, Some, None, Option, ◌==◌, nat_lt}
+use Rattle.std.specs.List.{count_by, range_with_len}
 use Rattle.instructions.specs.declared.instruction.Source.{Source}
 use Rattle.instructions.specs.declared.instruction.Source.TheVariants as source
 use Rattle.instructions.specs.declared.instruction.Destination.{Destination}
@@ -91,5 +92,4 @@ unfoldable pub permitted : ℕ → Bool
 permitted w = not (writes_r10 w || executes_too_many w)
 
 unfoldable pub permitted_below : ℕ → ℕ
-permitted_below zero = 0
-permitted_below (suc n) = cond (permitted n) 1 0 + permitted_below n
+permitted_below n = count_by permitted (range_with_len 0 n)

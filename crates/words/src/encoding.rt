@@ -1,10 +1,11 @@
 // From an instruction back to its word.
 ghost use Rattle.std.specs.Prelude.{◌≡◌, ℕ, ◌<◌, if◌then◌else◌, Some, None, Decides};
-ghost use Rattle.words.specs.Rebuilding.{Rebuilt, field_number, source_number, destination_number, length_number, source_length, destination_length, word_of, parts_word};
+ghost use Rattle.words.specs.Rebuilding.{Rebuilt, field_number, source_number, destination_number, length_number, coded_length, word_of, parts_word};
+ghost use Rattle.instructions.specs.Classes.{class_number};
 ghost use Rattle.words.specs.Words.{meaning, permitted};
 
 use crate::decoding::decode;
-use instructions::{Destination, Field, Instruction, Side, Source};
+use instructions::{Class, Destination, Field, Instruction, Side, Source};
 
 fn field_number(field: Field) -> u8
     ensures value { result ≡ field_number field }
@@ -40,86 +41,59 @@ fn destination_number(destination: Destination) -> u8
 fn length_number(source: Source, destination: Destination) -> u8
     ensures { result ≡ length_number source destination }
 {
-    match source {
-        Source::Field(field) => field.length % 8,
-        Source::Register { rotate, .. } => match destination {
-            Destination::Register(_) => rotate,
-            Destination::Field(field) => field.length % 8,
-        },
+    match (source, destination) {
+        (Source::Field(field), _) | (_, Destination::Field(field)) => field.length % 8,
+        (Source::Register { rotate, .. }, Destination::Register(_)) => rotate,
     }
 }
 
-// Bits 8-10 of a word with a source and a constant.
-fn source_length(source: Source) -> u8
-    ensures value { result ≡ source_length source }
+// What a bank field, or none, takes of bits 8-10 of a word with a constant.
+fn coded_length(field: Option<Field>) -> u8
+    ensures value { result ≡ coded_length field }
     ensures bound { result < 8 }
 {
-    match source {
-        Source::Register { .. } => 0,
-        Source::Field(field) => field.length % 8,
-    }
+    field.map_or(0, |field| field.length % 8)
 }
 
-// Bits 8-10 of a word with a constant and a destination.
-fn destination_length(destination: Destination) -> u8
-    ensures value { result ≡ destination_length destination }
-    ensures bound { result < 8 }
+fn word_of(class: Class, s: u8, l: u8, d: u16) -> u16
+    requires { (s < 32) × (word_of (class_number class) s l d < 65536) }
+    ensures { result ≡ word_of (class_number class) s l d }
 {
-    match destination {
-        Destination::Register(_) => 0,
-        Destination::Field(field) => field.length % 8,
-    }
-}
-
-fn word_of(class: u8, s: u8, l: u8, d: u8) -> u16
-    requires { (class < 8) × ((s < 32) × (word_of class s l d < 65536)) }
-    ensures { result ≡ word_of class s l d }
-{
-    class as u16 * 8192 + s as u16 * 256 + l as u16 * 32 + d as u16
+    class.number() as u16 * 8192 + s as u16 * 256 + l as u16 * 32 + d
 }
 
 // The word that the parts of an instruction make, whether or not it means the instruction.
 fn parts_word(instruction: Instruction) -> u16
     ensures { result ≡ parts_word instruction }
 {
+    let class = instruction.class();
     match instruction {
         Instruction::Alu {
-            operation,
+            operation: _,
             source,
             destination,
-        } => {
-            let l = length_number(source, destination);
-            word_of(
-                operation as u8,
-                source_number(source),
-                l,
-                destination_number(destination),
-            )
-        }
-        Instruction::Xec { source, offset } => word_of(
-            4,
+        } => word_of(
+            class,
             source_number(source),
-            source_length(source),
-            offset,
+            length_number(source, destination),
+            destination_number(destination) as u16,
         ),
-        Instruction::Nzt { source, offset } => word_of(
-            5,
+        Instruction::Xec { source, offset } | Instruction::Nzt { source, offset } => word_of(
+            class,
             source_number(source),
-            source_length(source),
-            offset,
+            coded_length(source.field()),
+            offset as u16,
         ),
         Instruction::Xmit {
             constant,
             destination,
-        } => {
-            word_of(
-                6,
-                destination_number(destination),
-                destination_length(destination),
-                constant,
-            )
-        }
-        Instruction::Jmp { address } => 0xe000 + address % 8192,
+        } => word_of(
+            class,
+            destination_number(destination),
+            coded_length(destination.field()),
+            constant as u16,
+        ),
+        Instruction::Jmp { address } => word_of(class, 0, 0, address % 8192),
     }
 }
 
@@ -133,10 +107,7 @@ fn candidate(instruction: Instruction) -> u16
 fn means(word: u16, instruction: Instruction) -> bool
     ensures { Decides result (meaning word ≡ Some instruction) }
 {
-    match decode(word) {
-        Some(meant) => meant == instruction,
-        None => false,
-    }
+    decode(word) == Some(instruction)
 }
 
 // The word that means the instruction, or none where no word does.
@@ -144,19 +115,12 @@ pub fn encode(instruction: Instruction) -> Option<u16>
     ensures { Rebuilt instruction result }
 {
     let word = candidate(instruction);
-    if means(word, instruction) {
-        Some(word)
-    } else {
-        None
-    }
+    means(word, instruction).then_some(word)
 }
 
 // A word decoded and rebuilt: itself where it is permitted.
 pub fn rebuild(word: u16) -> Option<u16>
     ensures { result ≡ (if permitted word then Some word else None) }
 {
-    match decode(word) {
-        Some(instruction) => encode(instruction),
-        None => None,
-    }
+    decode(word).and_then(encode)
 }

@@ -4,6 +4,7 @@
 mod code;
 mod decoding;
 mod encoding;
+mod parts;
 
 pub use code::{MOST_WORDS, fetch, word_count};
 pub use decoding::{decode, permitted_words};

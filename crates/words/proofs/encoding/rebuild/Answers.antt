@@ -1,9 +1,8 @@
-use Rattle.std.proofs.Common.{◌<◌, Bool, cond, Some, None, sym, ap, ◌∙◌, arith}
+use Rattle.std.proofs.Common.{◌<◌, arith}
+use Rattle.words.proofs.Rebuilding.{rebuilt_of_meaning}
 use Rattle.words.proofs.encoding.rebuild.Goals as goal
 
-pub returns-in-Some : goal.returns-in-Some
-returns-in-Some c =
-    let w = c.args.word in
-    let small : w < 65536 = omega arith in
-    (c.encode.ensures w small).1 (sym c.decode.ensures.meaning ∙ c.in-Some.is)
-    ∙ ap (λ (b : Bool). cond b (Some w) None) c.in-Some.ensures.permitted
+pub returns : goal.returns
+returns c =
+    let small : c.args.word < 65536 = omega arith in
+    rebuilt_of_meaning c.args.word c.decode.result c.and_then.result small c.decode.ensures.meaning c.decode.ensures.permitted c.and_then.ensures

@@ -1,7 +1,7 @@
 use Rattle.std.proofs.Common.{refl}
 use Rattle.words.specs.Fields.{field_of}
 use Rattle.words.proofs.Same.{field_same}
-use Rattle.words.proofs.decoding.field_at.Goals as goal
+use Rattle.words.proofs.parts.field_at.Goals as goal
 
 pub returns : goal.returns
 unfolding field_of
