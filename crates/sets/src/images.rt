@@ -11,6 +11,7 @@ use crate::rows::{Mix, mixed_row, sum_row};
 use operands::rotated_byte;
 
 // What is done to each two members of two sets.
+// An enum and no closure, whose contract could not name the operation but only speak of all that it may be.
 #[derive(Clone, Copy)]
 pub(crate) enum Op {
     And,
