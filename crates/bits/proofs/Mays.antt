@@ -79,7 +79,7 @@ pub one_below : (f : One) (a : ℕ) → a < 256 → one f a < 256
 one_below (rotate n) a h = omega arith
 one_below (keep n) a h = omega (arith, mod-le a (2 ^ kept_bits (n % 8)))
 
-two_below : (f : Two) (a b : ℕ) → a < 256 → b < 256 → two f a b < 256
+pub two_below : (f : Two) (a b : ℕ) → a < 256 → b < 256 → two f a b < 256
 two_below and a b ha hb = omega (arith, and_le_l a b)
 two_below xor a b ha hb = xor_lt 8 a b ha hb
 two_below sum a b ha hb = omega arith

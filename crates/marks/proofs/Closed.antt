@@ -1,18 +1,20 @@
 -- The machine words of an answer leave exactly the possible outcomes. Assumes nothing.
 use Rattle.std.proofs.Common.{◌≡◌, ℕ, zero, suc, ◌+◌, ◌-◌, ◌*◌, ◌/◌, ◌%◌, ◌<◌, ◌≤◌, min, ◌∙◌, ⊎_elim, arith}
 use lib.Bits.{bit_and, bit_or, bit_xor}
+use Rattle.std.proofs.lemmas.Nat.{or_lt, xor_lt}
 use Rattle.std.proofs.lemmas.Bool.{cases_eq, cases_lt}
 use Rattle.operands.specs.Bytes.{Same, One, Two, one, two, kept_bits}
 use Rattle.operands.specs.Bytes.One.{rotate, keep}
 use Rattle.operands.specs.Bytes.Two.{and, xor, sum, carry}
 use Rattle.bits.specs.Bits.{bit, carry_into}
 use Rattle.bits.specs.Mays.{Marked, May, OneMay, TwoMay, may_ones, may_twos}
-use Rattle.bits.proofs.Bits.{bit-and, bit-or, bit-xor, bit_mod, bit_past, bit_mod_past, bit-rotated, bit_add, carry_le, carry_out}
+use Rattle.bits.proofs.Bits.{bit-and, bit-or, bit-xor, bit_mod, bit_past, bit_mod_past, bit-rotated, bit_add, carry_le, carry_out, and_within}
 use Rattle.bits.proofs.Mays.{mul_bits, one_below}
 use Rattle.marks.specs.declared.mark.Marks.{Marks}
 use Rattle.marks.specs.Marks.{Between, marks_has, marks_lawful}
 use Rattle.marks.specs.Closed.{open_bits, carries_of, open_xor, open_sum, least_of, most_of, two_low, two_high}
-use Rattle.marks.proofs.Members.{low_below, ordered, high_has, either_end, may_between, between_may, carry_ordered, carry_between, between_carry, Exactly, exactly_within, same_marked, same_ends}
+use Rattle.marks.specs.Least.{may_between}
+use Rattle.marks.proofs.Members.{low_below, ordered, high_has, either_end, between_may, carry_ordered, carry_between, between_carry, Exactly, exactly_within, same_marked, same_ends}
 
 pub one_exactly : (f : One) (x : Marks) → Exactly (one f x.low) (one f x.high) (OneMay f (marks_has x))
 one_exactly (rotate n) x k v h =
@@ -191,3 +193,9 @@ two_within f x y l h s el eh =
 
 pub two_same : (f : Two) (x y : Marks) (l h : ℕ) → l ≡ two_low f x y → h ≡ two_high f x y → Same (Marked (Between l h)) (may_twos f (marks_has x) (marks_has y))
 two_same f x y l h el eh = same_ends l h _ _ _ el eh (same_marked _ _ (TwoMay f (marks_has x) (marks_has y)) (two_exactly f x y))
+
+pub opened_within : (b o : ℕ) → b < 256 → o < 256 → bit_and (least_of b o) (most_of b o) ≡ least_of b o
+opened_within b o hb ho =
+    let m = most_of b o in
+    and_within (least_of b o) m (xor_lt 8 m o (or_lt 8 b o hb ho) ho)
+    (λ k _. let l = bit-xor m o k in let h = bit-or b o k in omega arith)

@@ -2,17 +2,17 @@
 use Rattle.std.specs.Prelude.{◌≡◌, ℕ, zero, suc, ◌<◌, ◌≤◌, Bool, true, false, ◌⊎◌, Decides, refl}
 use Rattle.std.proofs.Common.{subst, inl, inr, ⊎_elim, arith}
 use Rattle.std.specs.Int.Bits.{bit_and}
-use Rattle.std.proofs.lemmas.Nat.{and_le_l}
+use Rattle.std.proofs.lemmas.Nat.{and_le_l, or_lt}
 use Rattle.std.proofs.lemmas.Bool.{both_ways, cases_lt, cases_eq}
 use Rattle.operands.specs.Bytes.{Inside, Same}
 use Rattle.bits.specs.Bits.{bit}
 use Rattle.bits.specs.Mays.{Marked, May}
 use Rattle.bits.proofs.Bits.{bit-and, bit-or}
-use Rattle.bits.proofs.Mays.{may_inside}
 use Rattle.marks.specs.declared.mark.Marks.{Marks}
 use Rattle.marks.specs.Marks.{Between, marks_has, count_mays, marks_rank, marks_joined}
 use Rattle.marks.specs.Closed.{joined_low, joined_high}
-use Rattle.marks.proofs.Members.{low_below, low_has, high_has, low_same, high_same, may_between, between_may, Exactly, same_marked, same_ends, exactly_within}
+use Rattle.marks.specs.Least.{may_between}
+use Rattle.marks.proofs.Members.{low_below, low_has, high_has, low_same, high_same, between_may, Exactly, same_marked, same_ends, exactly_within}
 
 joined_exactly : (x y : Marks) → Exactly (joined_low x y) (joined_high x y) (λ k v. May (marks_has x) k v ⊎ May (marks_has y) k v)
 joined_exactly x y k v h =
@@ -37,20 +37,20 @@ first_inside x y b m = (m.0, λ k h. inl (b, (m, refl)))
 pub second_inside : (x y : Marks) → Inside (marks_has y) (marks_joined x y)
 second_inside x y b m = (m.0, λ k h. inr (b, (m, refl)))
 
-pub joined_least : (x y u : Marks) → Inside (marks_has x) (marks_has u) → Inside (marks_has y) (marks_has u) → Inside (marks_joined x y) (marks_has u)
-joined_least x y u f g b m = (
-  m.0,
-  λ k h.
-      ⊎_elim
-      (λ p. may_between u k (bit b k) h (may_inside (marks_has x) (marks_has u) k (bit b k) f p))
-      (λ p. may_between u k (bit b k) h (may_inside (marks_has y) (marks_has u) k (bit b k) g p))
-      (m.1 k h),
-)
-
 pub joined_within : (x y : Marks) (l h : ℕ) → l ≡ joined_low x y → h ≡ joined_high x y → bit_and l h ≡ l
 joined_within x y l h el eh =
     rw (el, eh)
     (exactly_within _ _ _ (omega (arith, and_le_l x.low y.low, low_below x)) (joined_exactly x y) x.high (first_inside x y x.high (high_has x)))
+
+-- the marks that the join answers
+abbrev pub joined_marks : Marks → Marks → Marks
+joined_marks x y =
+    record {
+      low = joined_low x y;
+      high = joined_high x y;
+      within = joined_within x y _ _ refl refl;
+      small = or_lt 8 x.high y.high x.small y.small;
+    }
 
 pub joined_same : (x y : Marks) (l h : ℕ) → l ≡ joined_low x y → h ≡ joined_high x y → Same (Marked (Between l h)) (marks_joined x y)
 joined_same x y l h el eh =

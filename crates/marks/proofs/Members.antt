@@ -1,17 +1,17 @@
 -- The members of marks: what each bit of one may be, and which bytes they are. Assumes nothing.
 use Rattle.std.specs.Prelude.{◌≡◌, ℕ, zero, suc, ◌-◌, ◌%◌, ◌^◌, ◌<◌, ◌≤◌, ◌⊎◌, bit_and, refl}
-use Rattle.std.proofs.Common.{sym, ap, ◌∙◌, inl, inr, ⊎_elim, arith, pow_pos, pow_mono}
+use Rattle.std.proofs.Common.{sym, inl, inr, ⊎_elim, arith, pow_pos, pow_mono}
 use Rattle.std.proofs.Math.Nat.{mod-le}
 use Rattle.std.proofs.lemmas.Nat.{mod_below, and_le_r}
 use Rattle.std.proofs.lemmas.Bool.{cases_lt, cases_eq}
-use Rattle.operands.specs.Bytes.{Bytes, Same, Only, One, one}
-use Rattle.operands.specs.Exact.{exact_ones}
+use Rattle.operands.specs.Bytes.{Bytes, Same, Only}
 use Rattle.bits.specs.Bits.{bit, carry_into}
 use Rattle.bits.specs.Mays.{Marked, May, MayCarry}
 use Rattle.bits.proofs.Bits.{bit_mod, bit_past, bit_mod_past, bit-ones, bits_below, and_within, bits_same, carry_le, carry_mono}
 use Rattle.bits.proofs.Mays.{marked_inside}
 use Rattle.marks.specs.declared.mark.Marks.{Marks}
 use Rattle.marks.specs.Marks.{Between, marks_has}
+use Rattle.marks.specs.Least.{may_between}
 
 pub low_below : (x : Marks) → x.low < 256
 low_below x = omega (arith, and_le_r x.low x.high, x.within, x.small)
@@ -28,10 +28,7 @@ high_has x = (x.small, λ k h. (ordered x k, omega arith))
 pub either_end : (l h v : ℕ) → l ≤ v → v ≤ h → h ≤ 1 → (v ≡ l) ⊎ (v ≡ h)
 either_end l h v p q r = ⊎_elim (λ e. inl e) (λ n. inr (omega arith)) (cases_eq v l)
 
--- a bit of a member is one between low and high, and each such bit some member has
-
-pub may_between : (x : Marks) (k v : ℕ) → k < 8 → May (marks_has x) k v → Between x.low x.high k v
-may_between x k v h (b, (m, e)) = (omega (arith, (m.1 k h).0, e), omega (arith, (m.1 k h).1, e))
+-- each bit between low and high some member has
 
 pub between_may : (x : Marks) (k v : ℕ) → Between x.low x.high k v → May (marks_has x) k v
 between_may x k v (p, q) =
@@ -90,10 +87,6 @@ within_has x b h p q = (h, λ k g. (bits_below x.low b p k, bits_below b x.high 
 pub has_within : (x : Marks) (b : ℕ) → marks_has x b → (bit_and x.low b ≡ x.low) × (bit_and b x.high ≡ b)
 has_within x b m =
     (and_within x.low b (low_below x) (λ k g. (m.1 k g).0), and_within b x.high m.0 (λ k g. (m.1 k g).1))
-
--- the byte that a byte's operation answers
-pub only_one : (f : One) (b r : ℕ) → Same (Only r) (exact_ones f (Only b)) → r ≡ one f b
-only_one f b r s = let m = s.0 r refl in m.1.1 ∙ ap (one f) m.1.0
 
 -- marks of which each has the other's end have the same end
 

@@ -1,2 +1,3 @@
 pub mod Marks
 pub mod Closed
+pub mod Least

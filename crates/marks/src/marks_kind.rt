@@ -2,9 +2,9 @@
 ghost use Rattle.std.specs.Prelude.{◌≡◌, Decides, bit_and};
 ghost use Rattle.marks.specs.Marks.{marks_operations, marks_lawful};
 
-use crate::ends::{and_ends, carry_ends, kept_ends, only_ends, rotated_ends, sum_ends, xor_ends};
+use crate::ends::{open_in_sum, open_in_xor, opened};
 use crate::mark::Marks;
-use operands::Operand;
+use operands::{Operand, carry_byte, kept_byte, rotated_byte};
 
 // Each bit of `a` is at most that of `b`.
 fn is_within(a: u8, b: u8) -> bool
@@ -19,40 +19,41 @@ impl Operand for Marks {
     ghost lawful = { marks_lawful };
 
     fn constant(b: u8) -> Marks {
-        let (low, high) = only_ends(b);
-        Marks { low, high }
+        Marks { low: b, high: b }
     }
 
     fn rotate_right(self, by: u8) -> Marks {
-        let (low, high) = rotated_ends(self, by);
-        Marks { low, high }
+        Marks {
+            low: rotated_byte(self.low, by),
+            high: rotated_byte(self.high, by),
+        }
     }
 
     fn keep_lowest(self, bits: u8) -> Marks {
-        let (low, high) = kept_ends(self, bits);
-        Marks { low, high }
+        Marks {
+            low: kept_byte(self.low, bits),
+            high: kept_byte(self.high, bits),
+        }
     }
 
     fn and(self, other: Marks) -> Marks {
-        let (low, high) = and_ends(self, other);
-        Marks { low, high }
+        Marks {
+            low: self.low & other.low,
+            high: self.high & other.high,
+        }
     }
 
     fn xor(self, other: Marks) -> Marks {
-        let (low, high) = xor_ends(self, other);
-        Marks { low, high }
+        opened(self.low ^ other.low, open_in_xor(self, other))
     }
 
     fn add(self, other: Marks) -> (Marks, Marks) {
-        let (low, high) = sum_ends(self, other);
-        let (least, most) = carry_ends(self, other);
-        (
-            Marks { low, high },
-            Marks {
-                low: least,
-                high: most,
-            },
-        )
+        let sum = opened(self.low.wrapping_add(other.low), open_in_sum(self, other));
+        let carry = Marks {
+            low: carry_byte(self.low, other.low),
+            high: carry_byte(self.high, other.high),
+        };
+        (sum, carry)
     }
 
     fn contains(self, b: u8) -> bool {

@@ -2,3 +2,4 @@ pub mod Bytes
 pub mod Operations
 pub mod Exact
 pub mod Single
+pub mod Worked

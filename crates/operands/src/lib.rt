@@ -4,6 +4,9 @@
 mod byte;
 mod bytes;
 mod operand;
+mod worked;
 
 pub use byte::Byte;
+pub use bytes::{carry_byte, kept_byte, rotated_byte};
 pub use operand::{LeastJoin, Operand, Spreading};
+pub use worked::zero_or_one_plus_one;

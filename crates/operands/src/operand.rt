@@ -44,15 +44,12 @@ pub trait Spreading: Operand {
     // the largest rank
     const MAX_RANK: usize;
 
-    ghost rank: { Self → ℕ };
+    ghost MAX_RANK: { ℕ };
 
-    ghost top: { ℕ };
+    ghost rank: { Self → ℕ };
 
     // which bytes a join has
     ghost joined: { Self → Self → Bytes };
-
-    fn largest_rank() -> usize
-        ensures { result ≡ top };
 
     fn all() -> Self
         ensures { Same (Self.Operand.operations.has result) Every };
@@ -66,11 +63,10 @@ pub trait Spreading: Operand {
         ensures rests { result.1 ≡ false → Inside (joined self other) (Self.Operand.operations.has self) }
         ensures rises { result.1 ≡ true → rank self < rank result.0 };
 
-    ghost bounded: { (x : Self) → rank x ≤ top };
+    ghost bounded: { (x : Self) → rank x ≤ MAX_RANK };
 }
 
 // A kind whose join lies inside every operand that contains both.
 pub trait LeastJoin: Spreading {
-    fn join_is_least()
-        ensures { (x y u : Self) → Inside (Self.Operand.operations.has x) (Self.Operand.operations.has u) → Inside (Self.Operand.operations.has y) (Self.Operand.operations.has u) → Inside (Self.Spreading.joined x y) (Self.Operand.operations.has u) };
+    ghost least: { (x y u : Self) → Inside (Self.Operand.operations.has x) (Self.Operand.operations.has u) → Inside (Self.Operand.operations.has y) (Self.Operand.operations.has u) → Inside (Self.Spreading.joined x y) (Self.Operand.operations.has u) };
 }

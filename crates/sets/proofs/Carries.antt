@@ -1,5 +1,5 @@
 -- The least and the greatest members give all carries. Assumes nothing.
-use Rattle.std.proofs.Common.{◌≡◌, ℕ, ◌+◌, ◌^◌, ◌<◌, ◌≤◌, sym, refl, subst, inl, inr, ⊎_elim, arith}
+use Rattle.std.proofs.Common.{◌≡◌, ℕ, ◌+◌, ◌-◌, ◌*◌, ◌^◌, ◌<◌, ◌≤◌, sym, refl, subst, inl, inr, ⊎_elim, arith}
 use lib.Bits.{bit_or}
 use Rattle.std.proofs.lemmas.Bool.{cases_eq}
 use Rattle.operands.specs.Bytes.{Same, two}
@@ -14,8 +14,11 @@ use Rattle.sets.proofs.Unions.{in_or_same, in_pow}
 abbrev pub Greatest : ℕ → ℕ → Type 0
 Greatest n h = In n h × ((k : ℕ) → In n k → k ≤ h)
 
-pub greatest_from_top : (n h others : ℕ) → n ≡ 2 ^ h + others → others < 2 ^ h → Greatest n h
-greatest_from_top n h others e small =
+pub greatest_from_top : (n h : ℕ) → 2 ^ h ≤ n → n < 2 * 2 ^ h → Greatest n h
+greatest_from_top n h le lt =
+    let others : ℕ = n - 2 ^ h in
+    let e : n ≡ 2 ^ h + others = omega arith in
+    let small : others < 2 ^ h = omega arith in
     let At : ℕ → Type 0 = λ z. Greatest z h in
     subst At (sym e) ((in_top h others small).1 h (inl refl), top_most h others small)
 

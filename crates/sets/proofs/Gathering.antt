@@ -16,8 +16,10 @@ Gathered xs Part rest n =
     ((k : ℕ) → In n k → From xs Part k) × ((a k : ℕ) → In xs a → Part a k → In n k ⊎ In rest a) × ((a : ℕ) → In rest a → In xs a)
 
 module _ (xs : ℕ) (Part : ℕ → Bytes) where
-  pub gathered_none : (n : ℕ) → n ≡ 0 → Gathered xs Part xs n
-  gathered_none n e = ((λ k h. absurd (in_zero k (ap (λ r. bit r k) (sym e) ∙ h))), (λ a k h p. inr h), (λ a h. h))
+  pub gathered_none : (rest n : ℕ) → rest ≡ xs → n ≡ 0 → Gathered xs Part rest n
+  gathered_none rest n r e =
+      let Before : ℕ → Type 0 = λ z. Gathered xs Part z n in
+      subst Before (sym r) ((λ k h. absurd (in_zero k (ap (λ b. bit b k) (sym e) ∙ h))), (λ a k h p. inr h), (λ a h. h))
 
   more : (n a others m : ℕ) → others < 2 ^ a → Gathered xs Part (2 ^ a + others) n → Same (In m) (Part a) → Gathered xs Part others (bit_or n m)
   more n a others m small g s =

@@ -9,3 +9,5 @@ mod Turns
 mod Flips
 mod Mixes
 mod Parts
+mod Sums
+mod Words

@@ -8,7 +8,8 @@ use Rattle.operands.specs.Bytes.{Bytes, Only, Every, Same}
 use Rattle.operands.proofs.Rotations.{every_at}
 use Rattle.bits.specs.Bits.{bit}
 use Rattle.bits.proofs.Bits.{bit-or}
-use Rattle.sets.specs.Numbers.{In, in_below}
+use Rattle.sets.specs.Numbers.{In, in_below, in_highest}
+use Rattle.sets.specs.Steps.{Image}
 
 -- equal numbers have the same members
 pub same_from_number : (n m : ℕ) (Q : Bytes) → n ≡ m → Same (In m) Q → Same (In n) Q
@@ -64,3 +65,9 @@ in_all = (λ k. in_below 256 (2 ^ 256 - 1) k (omega arith), λ k h. (Decides-eqb
 
 pub in_or_same : (a b : ℕ) → Same (In (bit_or a b)) (λ k. In a k ⊎ In b k)
 in_or_same a b = (in_or a b, λ k h. ⊎_elim (in_or_left a b k) (in_or_right a b k) h)
+
+-- what is given from members has members
+pub image_some : (f : ℕ → ℕ) (n m : ℕ) → 0 < n → n < 2 ^ 256 → Same (In m) (Image f (In n)) → 0 < m
+image_some f n m p h s =
+    let a = in_highest 256 n p h in
+    pos_from_in m (f a.0) (s.1 (f a.0) (a.0, (a.1, refl)))

@@ -1,7 +1,8 @@
 -- Sets of bytes as numbers of 256 bits. Assumes nothing.
 --   In n       the set of the bytes whose bits in n are 1
 --   number x   the 256 bits of x as one number
-use Rattle.std.specs.Prelude.{◌≡◌, ℕ, ◌+◌, ◌*◌, ◌^◌, ◌<◌}
+--   TakesHighest n b m   b is the greatest member of n and m has all others, or n has none
+use Rattle.std.specs.Prelude.{◌≡◌, ℕ, ◌+◌, ◌*◌, ◌^◌, ◌<◌, Option, None, Some}
 use Rattle.std.proofs.Common.{⊎_elim, arith, pow-suc, pow_mono}
 use Rattle.std.proofs.lemmas.Nat.{leading_top, div_below, le-div, pow_pos}
 use Rattle.std.proofs.lemmas.Bool.{cases_lt}
@@ -14,6 +15,10 @@ In n b = bit n b ≡ 1
 
 abbrev pub number : Words → ℕ
 number x = x.high * 2 ^ 128 + x.low
+
+abbrev pub TakesHighest : ℕ → Option ℕ → ℕ → Type 0
+TakesHighest n None m = n ≡ 0
+TakesHighest n (Some b) m = (n ≡ 2 ^ b + m) × (m < 2 ^ b)
 
 -- above its highest bit a number has none
 pub in_below : (w n k : ℕ) → n < 2 ^ w → In n k → k < w

@@ -6,8 +6,8 @@
 --   zero_only        the operand whose only member is 0
 --   set_operations, set_lawful   what the kind means: exact answers; and that it keeps the laws
 use Rattle.std.specs.Prelude.{◌≡◌, ℕ, ◌⊎◌, count_ones}
-use Rattle.std.proofs.Common.{arith}
-use Rattle.operands.specs.Bytes.{Bytes}
+use Rattle.std.proofs.Common.{⊎_elim, arith}
+use Rattle.operands.specs.Bytes.{Bytes, Inside}
 use Rattle.operands.specs.Operations.{Operations, Lawful}
 use Rattle.operands.specs.Exact.{exact, exact_lawful}
 use Rattle.sets.specs.Numbers.{In, number, in_below, in_highest}
@@ -21,6 +21,10 @@ set_rank x = count_ones (number x.bits)
 
 abbrev pub set_joined : Set → Set → Bytes
 set_joined x y b = set_has x b ⊎ set_has y b
+
+-- the union lies inside every set that contains both
+pub set_joined_least : (x y u : Set) → Inside (set_has x) (set_has u) → Inside (set_has y) (set_has u) → Inside (set_joined x y) (set_has u)
+set_joined_least x y u f g b = ⊎_elim (f b) (g b)
 
 abbrev pub OneOrTwo : Bytes
 OneOrTwo b = (b ≡ 1) ⊎ (b ≡ 2)

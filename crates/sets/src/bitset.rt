@@ -1,21 +1,16 @@
 // A set of bytes that may be empty, as 256 bits: what an answer is built in.
-ghost use Rattle.std.specs.Prelude.{◌≡◌, ℕ, ◌+◌, ◌-◌, ◌*◌, ◌^◌, ◌<◌, ◌≤◌, Decides, ◌≢◌, bit_or, count_ones};
-ghost use Rattle.sets.specs.Numbers.{number, In};
+ghost use Rattle.std.specs.Prelude.{◌≡◌, ℕ, ◌+◌, ◌-◌, ◌*◌, ◌^◌, ◌<◌, ◌≤◌, Decides, bit_or, count_ones};
+ghost use Rattle.std.specs.Iterator.{at_most};
+ghost use Rattle.sets.specs.Numbers.{number, In, TakesHighest};
 
-// Byte b is bit b % 128 of `low`, or of `high` from 128 on.
-#[derive(Clone, Copy)]
+// Byte b is bit b % 128 of `low`, or of `high` from 128 on. By default there is none.
+#[derive(Clone, Copy, Default, PartialEq, Eq)]
 pub(crate) struct Bits {
     pub(crate) low: u128,
     pub(crate) high: u128,
 }
 
 impl Bits {
-    pub(crate) fn none() -> Bits
-        ensures { number result ≡ 0 }
-    {
-        Bits { low: 0, high: 0 }
-    }
-
     pub(crate) fn all() -> Bits
         ensures { number result ≡ 2 ^ 256 - 1 }
     {
@@ -55,27 +50,15 @@ impl Bits {
         ensures { number result ≡ bit_or (number self) (number other) }
     {
         Bits {
-            low: either(self.low, other.low),
-            high: either(self.high, other.high),
+            low: self.low | other.low,
+            high: self.high | other.high,
         }
-    }
-
-    pub(crate) fn differs(self, other: Bits) -> bool
-        ensures { Decides result (number self ≢ number other) }
-    {
-        self.low != other.low || self.high != other.high
-    }
-
-    pub(crate) fn is_empty(self) -> bool
-        ensures { Decides result (number self ≡ 0) }
-    {
-        self.low == 0 && self.high == 0
     }
 
     pub(crate) fn is_all(self) -> bool
         ensures { Decides result (number self ≡ 2 ^ 256 - 1) }
     {
-        self.low == u128::MAX && self.high == u128::MAX
+        self == Bits::all()
     }
 
     // How many members there are.
@@ -85,29 +68,22 @@ impl Bits {
         self.low.count_ones() + self.high.count_ones()
     }
 
-    // The greatest member, and all others.
-    pub(crate) fn take_highest(self) -> (u8, Bits)
+    // From the greatest member down.
+    pub(crate) fn members(self) -> Members
+        ensures { number result.rest ≡ number self }
+    {
+        Members { rest: self }
+    }
+
+    // The greatest member.
+    pub(crate) fn highest(self) -> u8
         requires { 0 < number self }
-        ensures { (number self ≡ 2 ^ result.0 + number result.1) × (number result.1 < 2 ^ result.0) }
+        ensures { (2 ^ result ≤ number self) × (number self < 2 * 2 ^ result) }
     {
         if self.high > 0 {
-            let top = highest_bit(self.high);
-            (
-                128 + top,
-                Bits {
-                    low: self.low,
-                    high: self.high - (1 << top),
-                },
-            )
+            128 + highest_bit(self.high)
         } else {
-            let top = highest_bit(self.low);
-            (
-                top,
-                Bits {
-                    low: self.low - (1 << top),
-                    high: 0,
-                },
-            )
+            highest_bit(self.low)
         }
     }
 
@@ -125,10 +101,33 @@ impl Bits {
     }
 }
 
-fn either(a: u128, b: u128) -> u128
-    ensures { result ≡ bit_or a b }
-{
-    a | b
+// The members of a set that are still to come.
+#[derive(Drop)]
+pub(crate) struct Members {
+    rest: Bits,
+}
+
+impl Iterator for Members {
+    type Item = u8;
+
+    ghost next_gives = { λ s b t. TakesHighest (number s.rest) b (number t.rest) };
+
+    ghost remaining = { λ s. at_most (number s.rest) };
+
+    fn next(&mut self) -> Option<u8> {
+        let Bits { low, high } = self.rest;
+        if high > 0 {
+            let top = highest_bit(high);
+            self.rest.high = high - (1 << top);
+            Some(128 + top)
+        } else if low > 0 {
+            let top = highest_bit(low);
+            self.rest.low = low - (1 << top);
+            Some(top)
+        } else {
+            None
+        }
+    }
 }
 
 fn highest_bit(w: u128) -> u8

@@ -1,17 +1,17 @@
 // Sets of bytes as operands.
 ghost use Rattle.std.specs.Prelude.{◌≡◌, ◌<◌};
-ghost use Rattle.operands.specs.Bytes.{Same, Only, two};
+ghost use Rattle.operands.specs.Bytes.{Same};
 ghost use Rattle.operands.specs.Bytes.Two.{carry as carry_of};
 ghost use Rattle.operands.specs.Exact.{exact_twos};
 ghost use Rattle.sets.specs.Numbers.{number};
-ghost use Rattle.sets.specs.Steps.{Image, step_of, op_of};
-ghost use Rattle.sets.specs.Sets.{set_has, set_rank, set_joined, set_operations, set_lawful, OneOrTwo};
+ghost use Rattle.sets.specs.Steps.{op_of};
+ghost use Rattle.sets.specs.Sets.{set_has, set_rank, set_joined, set_operations, set_lawful, set_joined_least, OneOrTwo};
 ghost use Rattle.std.proofs.lemmas.Nat.{ones-le};
 
 use crate::bitset::Bits;
-use crate::images::{Op, Step, combined, image};
+use crate::images::{Op, combined, kept_members, rotated_members};
 use crate::set::Set;
-use operands::{LeastJoin, Operand, Spreading};
+use operands::{LeastJoin, Operand, Spreading, carry_byte};
 
 // An answer is a set once it is known to have a member.
 fn made(bits: Bits) -> Set
@@ -21,13 +21,6 @@ fn made(bits: Bits) -> Set
     Set { bits }
 }
 
-// What `step` gives from each member.
-fn each(step: Step, x: Set) -> Set
-    ensures { Same (set_has result) (Image (step_of step) (set_has x)) }
-{
-    made(image(step, x.bits))
-}
-
 // What `op` gives from each two members.
 fn pairs(op: Op, x: Set, y: Set) -> Set
     ensures { Same (set_has result) (exact_twos (op_of op) (set_has x) (set_has y)) }
@@ -35,20 +28,13 @@ fn pairs(op: Op, x: Set, y: Set) -> Set
     made(combined(op, x.bits, y.bits))
 }
 
-fn carry_of(a: u8, b: u8) -> u8
-    ensures { result ≡ two carry_of a b }
-{
-    ((a as u16 + b as u16) / 256) as u8
-}
-
 // A carry is 0 or 1, and grows with the bytes: the least members give the least, the greatest the greatest.
 fn carries(x: Set, y: Set) -> Set
     ensures { Same (set_has result) (exact_twos carry_of (set_has x) (set_has y)) }
 {
-    let least = carry_of(x.bits.lowest(), y.bits.lowest());
-    let (a, _) = x.bits.take_highest();
-    let (b, _) = y.bits.take_highest();
-    made(Bits::only(least).union(Bits::only(carry_of(a, b))))
+    let least = carry_byte(x.bits.lowest(), y.bits.lowest());
+    let most = carry_byte(x.bits.highest(), y.bits.highest());
+    made(Bits::only(least).union(Bits::only(most)))
 }
 
 impl Operand for Set {
@@ -61,11 +47,11 @@ impl Operand for Set {
     }
 
     fn rotate_right(self, by: u8) -> Set {
-        each(Step::Rotate(by), self)
+        made(rotated_members(by, self.bits))
     }
 
     fn keep_lowest(self, bits: u8) -> Set {
-        each(Step::Keep(bits), self)
+        made(kept_members(bits, self.bits))
     }
 
     fn and(self, other: Set) -> Set {
@@ -88,17 +74,13 @@ impl Operand for Set {
 impl Spreading for Set {
     const MAX_RANK: usize = 256;
 
-    ghost rank = { set_rank };
+    ghost MAX_RANK = { 256 };
 
-    ghost top = { 256 };
+    ghost rank = { set_rank };
 
     ghost joined = { set_joined };
 
     ghost bounded = { λ x. ones-le 256 (number x.bits) x.fits };
-
-    fn largest_rank() -> usize {
-        Self::MAX_RANK
-    }
 
     fn all() -> Set {
         made(Bits::all())
@@ -107,27 +89,17 @@ impl Spreading for Set {
     // The union, so a byte was added where the union differs from the first.
     fn join(self, other: Set) -> (Set, bool) {
         let both = self.bits.union(other.bits);
-        (made(both), both.differs(self.bits))
+        (made(both), both != self.bits)
     }
 }
 
 impl LeastJoin for Set {
-    fn join_is_least() {}
-}
-
-fn only_one() -> Set
-    ensures { Same (set_has result) (Only 1) }
-{
-    Set::constant(1)
+    ghost least = { set_joined_least };
 }
 
 // 0 or 1, plus 1, is 1 or 2.
 pub fn zero_or_one_plus_one() -> Set
     ensures { Same (set_has result) OneOrTwo }
 {
-    let zero = Set::constant(0);
-    let one = only_one();
-    let (either, _) = zero.join(one);
-    let (sum, _) = either.add(one);
-    sum
+    operands::zero_or_one_plus_one()
 }

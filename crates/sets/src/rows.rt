@@ -18,24 +18,34 @@ fn moved_up(w: u128, below: u128, by: u8) -> u128
     (w << by) | (below >> 1 >> (127 - by))
 }
 
-// What the sum modulo 256 gives: all 256 bits turned up by `a` places.
+// All 256 bits turned up by `by` places.
+fn turned_up(xs: Bits, by: u8) -> Bits
+    requires { by < 128 }
+    ensures { (k : ℕ) → k < 256 → bit (number result) k ≡ bit (number xs) ((k + (256 - by)) % 256) }
+{
+    Bits {
+        low: moved_up(xs.low, xs.high, by),
+        high: moved_up(xs.high, xs.low, by),
+    }
+}
+
+// What the sum modulo 256 gives: all bits turned up by `a` places.
 pub(crate) fn sum_row(a: u8, ys: Bits) -> Bits
     ensures { Same (In (number result)) (Image (two sum_of a) (In (number ys))) }
 {
-    let by = a % 128;
-    let low = moved_up(ys.low, ys.high, by);
-    let high = moved_up(ys.high, ys.low, by);
+    let turned = turned_up(ys, a % 128);
     if a < 128 {
-        Bits { low, high }
+        turned
     } else {
         Bits {
-            low: high,
-            high: low,
+            low: turned.high,
+            high: turned.low,
         }
     }
 }
 
 // The operations that work on each bit of a byte by itself, so that a row can be made one bit at a time.
+// An enum and no closures: they differ in three small steps, and the contracts name the operation.
 #[derive(Clone, Copy)]
 pub(crate) enum Mix {
     And,

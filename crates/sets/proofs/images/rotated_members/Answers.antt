@@ -1,4 +1,4 @@
-use Rattle.std.proofs.Common.{◌≡◌, ℕ, ◌-◌, ◌%◌, ◌^◌, ◌<◌, Bool, eqb, sym, refl, subst, arith}
+use Rattle.std.proofs.Common.{rules, ◌≡◌, ℕ, ◌-◌, ◌%◌, ◌^◌, ◌<◌, Bool, eqb, sym, refl, subst, arith}
 use Rattle.std.proofs.lemmas.Bool.Decides.{Decides-eqb}
 use Rattle.operands.proofs.Rotations.{every, every_at}
 use Rattle.operands.specs.Bytes.{Bytes, Same, Only, Every, one, rotated}
@@ -8,24 +8,25 @@ use Rattle.sets.proofs.Gathering.{gathered_none, gathered_more, gathered_all}
 use Rattle.sets.proofs.Unions.{same_from_number, in_pow, in_all}
 use Rattle.sets.proofs.images.rotated_members.Goals as goal
 
-pub members-init : goal.members-init
-members-init c = gathered_none (number c.args.xs) (λ a. Only (one (rotate c.args.by) a)) (number c.none-out.result) c.none-out.ensures
+pub loop-b-init : goal.loop-b-init
+loop-b-init c =
+    gathered_none (number c.args.xs) (λ a. Only (one (rotate c.args.by) a)) (number c.into_iter-b-iterator.result.rest) (number c.default-out.result) (search rules) (search rules)
 
-pub members-preserved : goal.members-preserved
-members-preserved c =
+pub loop-b-preserved : goal.loop-b-preserved
+loop-b-preserved c =
     let Part : ℕ → Bytes = λ a. Only (one (rotate c.args.by) a) in
-    let top = c.take_highest-b in
-    let b = c.rotated.result in
+    let b = c.rotated_byte.result in
     let m = number c.only.result in
     let Gives : ℕ → Type 0 = λ z. Same (In m) (Only z) in
-    let part = subst Gives c.rotated.ensures (same_from_number m (2 ^ b) (Only b) c.only.ensures (in_pow b)) in
-    gathered_more (number c.args.xs) Part (number c.members.rest) (number c.members.out) top.result.0 (number top.result.1) m
-    (number c.union-out.result) top.ensures.0 top.ensures.1 c.union-out.ensures c.members.invariant part
+    let part = subst Gives c.rotated_byte.ensures (same_from_number m (2 ^ b) (Only b) c.only.ensures (in_pow b)) in
+    let highest = c.in-Some.ensures.steps in
+    gathered_more (number c.args.xs) Part (number c.loop-b.b-iterator.rest) (number c.loop-b.out) c.in-Some.b (number c.next.new.self.rest) m
+    (number c.union-out.result) highest.0 highest.1 c.union-out.ensures c.loop-b.invariant part
 
 pub returns : goal.returns
 returns c =
-    gathered_all (number c.args.xs) (λ a. Only (one (rotate c.args.by) a)) (number c.members.rest) (number c.members.out)
-    (c.is_empty.ensures.0 c.members-test.false) c.members.invariant
+    gathered_all (number c.args.xs) (λ a. Only (one (rotate c.args.by) a)) (number c.loop-b.b-iterator.rest) (number c.loop-b.out)
+    c.in-None.ensures.steps c.loop-b.invariant
 
 abbrev turns : ℕ → ℕ → Bool
 turns n k = eqb (rotated n (rotated ((8 - n) % 8) k)) k

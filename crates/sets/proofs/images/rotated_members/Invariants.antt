@@ -4,8 +4,5 @@ use Rattle.sets.specs.Numbers.{number}
 use Rattle.sets.proofs.Gathering.{Gathered}
 use Rattle.sets.proofs.images.rotated_members.Given as goal
 
-abbrev pub invariant-members : goal.invariant-members
-invariant-members l = Gathered (number l.initial.rest) (λ a. Only (one (rotate l.by) a)) (number l.rest) (number l.out)
-
-abbrev pub decreases-members : goal.decreases-members
-decreases-members l = number l.rest
+abbrev pub invariant-loop-b : goal.invariant-loop-b
+invariant-loop-b l = Gathered (number l.fn.xs) (λ a. Only (one (rotate l.by) a)) (number l.b-iterator.rest) (number l.out)

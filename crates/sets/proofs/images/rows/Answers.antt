@@ -1,51 +1,46 @@
-use Rattle.std.proofs.Common.{◌≡◌, ℕ, ◌<◌, inl, ⊎_elim, arith}
-use lib.Bits.{and_le_l}
-use Rattle.std.proofs.lemmas.Nat.{xor_lt}
-use Rattle.std.proofs.lemmas.Bool.Decides.{not_from_Decides}
+use Rattle.std.proofs.Common.{rules, ℕ, ◌<◌, arith}
+use Rattle.bits.proofs.Mays.{two_below}
 use Rattle.operands.specs.Bytes.{Bytes, Same, two}
+use Rattle.operands.specs.Exact.{exact_twos}
 use Rattle.sets.specs.Numbers.{number, In, in_below}
 use Rattle.sets.specs.Steps.{Image, op_of}
 use Rattle.sets.specs.declared.images.Op.{Op}
-use Rattle.sets.specs.declared.images.Op.TheVariants.{And, Xor, Sum}
 use Rattle.sets.proofs.Gathering.{From, gathered_none, gathered_more, gathered_all, gathered_full}
 use Rattle.sets.proofs.images.rows.Goals as goal
 
-pub members-init : goal.members-init
-members-init c =
-    gathered_none (number c.args.xs) (λ a. Image (two (op_of c.args.op) a) (In (number c.args.ys))) (number c.none-out.result) c.none-out.ensures
+pub loop-a-init : goal.loop-a-init
+loop-a-init c =
+    gathered_none (number c.args.xs) (λ a. Image (two (op_of c.args.op) a) (In (number c.args.ys))) (number c.into_iter-a-iterator.result.rest) (number c.default-out.result) (search rules) (search rules)
 
-pub members-preserved : goal.members-preserved
-members-preserved c =
+pub loop-a-preserved : goal.loop-a-preserved
+loop-a-preserved c =
     let Part : ℕ → Bytes = λ a. Image (two (op_of c.args.op) a) (In (number c.args.ys)) in
-    let top = c.take_highest-a in
-    gathered_more (number c.args.xs) Part (number c.members.rest) (number c.members.out) top.result.0 (number top.result.1)
-    (number c.row.result) (number c.union-out.result) top.ensures.0 top.ensures.1 c.union-out.ensures c.members.invariant c.row.ensures
+    let highest = c.in-Some.ensures.steps in
+    gathered_more (number c.args.xs) Part (number c.loop-a.a-iterator.rest) (number c.loop-a.out) c.in-Some.a (number c.next.new.self.rest)
+    (number c.row.result) (number c.union-out.result) highest.0 highest.1 c.union-out.ensures c.loop-a.invariant c.row.ensures
 
--- what is left has a member
-pub take_highest-a-requires : goal.take_highest-a-requires
-take_highest-a-requires c =
-    let none : number c.members.rest ≡ 0 → ⊥ = λ e. not_from_Decides _ c.settled.ensures c.members-test.true (inl e) in
-    omega arith
-
-two_below : (op : Op) (a b : ℕ) → a < 256 → b < 256 → two (op_of op) a b < 256
-two_below And a b ha hb = omega (arith, and_le_l a b)
-two_below Xor a b ha hb = xor_lt 8 a b ha hb
-two_below Sum a b ha hb = omega arith
+-- from rows to pairs of members
+pairs : (op : Op) (xs ys n : ℕ) → Same (In n) (From xs (λ a. Image (two (op_of op) a) (In ys))) → Same (In n) (exact_twos (op_of op) (In xs) (In ys))
+pairs op xs ys n g = (
+  (λ k h. let t = g.0 k h in (t.0, t.1.1.0, (t.1.0, t.1.1.1))),
+  (λ k (a, b, (p, q)). g.1 k (a, (p, (b, q)))),
+)
 
 pub returns : goal.returns
 returns c =
     let xs = number c.args.xs in
     let ys = number c.args.ys in
+    let n = number c.loop-a.out in
+    let Part : ℕ → Bytes = λ a. Image (two (op_of c.args.op) a) (In ys) in
+    pairs c.args.op xs ys n (gathered_all xs Part (number c.loop-a.a-iterator.rest) n c.in-None.ensures.steps c.loop-a.invariant)
+
+pub returns-then-is_all : goal.returns-then-is_all
+returns-then-is_all c =
+    let xs = number c.args.xs in
+    let ys = number c.args.ys in
     let op = c.args.op in
+    let n = number c.loop-a.out in
     let Part : ℕ → Bytes = λ a. Image (two (op_of op) a) (In ys) in
-    let n = number c.members.out in
     let small : (a k : ℕ) → In xs a → Part a k → k < 256 = λ a k h (b, (i, e)).
-    omega (arith, e, two_below op a b (in_below 256 xs a (omega arith) h) (in_below 256 ys b (omega arith) i)) in
-    let g : Same (In n) (From xs Part) =
-    ⊎_elim
-    (λ none. gathered_all xs Part (number c.members.rest) n none c.members.invariant)
-    (λ full. gathered_full xs Part (number c.members.rest) n full small c.members.invariant)
-    (c.settled.ensures.0 c.members-test.false) in (
-      (λ k h. let t = g.0 k h in (t.0, t.1.1.0, (t.1.0, t.1.1.1))),
-      (λ k (a, b, (p, q)). g.1 k (a, (p, (b, q)))),
-    )
+    omega (arith, e, two_below (op_of op) a b (in_below 256 xs a (omega arith) h) (in_below 256 ys b (omega arith) i)) in
+    pairs op xs ys n (gathered_full xs Part (number c.loop-a.a-iterator.rest) n (c.is_all.ensures.0 c.if-is_all.true) small c.loop-a.invariant)

@@ -12,7 +12,7 @@ use Rattle.sets.proofs.operand.carries.Goals as goal
 
 pub made-requires : goal.made-requires
 made-requires c =
-    let first : 0 < number c.only.result = omega (arith, c.only.ensures, pow_pos c.carry_of-least.result) in
+    let first : 0 < number c.only.result = omega (arith, c.only.ensures, pow_pos c.carry_byte-least.result) in
     omega (arith, c.union.ensures, or_pos (number c.only.result) (number c.only-2.result) first)
 
 pub returns : goal.returns
@@ -23,16 +23,16 @@ returns c =
     let m = number y.bits in
     let la = c.lowest.result in
     let lb = c.lowest-2.result in
-    let ta = c.take_highest-a in
-    let tb = c.take_highest-b in
+    let ha = c.highest.result in
+    let hb = c.highest-2.result in
     let least = two carry la lb in
-    let most = two carry ta.result.0 tb.result.0 in
-    let first : number c.only.result ≡ 2 ^ least = c.only.ensures ∙ ap (λ z. 2 ^ z) c.carry_of-least.ensures in
-    let second : number c.only-2.result ≡ 2 ^ most = c.only-2.ensures ∙ ap (λ z. 2 ^ z) c.carry_of.ensures in
+    let most = two carry ha hb in
+    let first : number c.only.result ≡ 2 ^ least = c.only.ensures ∙ ap (λ z. 2 ^ z) c.carry_byte-least.ensures in
+    let second : number c.only-2.result ≡ 2 ^ most = c.only-2.ensures ∙ ap (λ z. 2 ^ z) c.carry_byte-most.ensures in
     let is : number c.made.result.bits ≡ bit_or (2 ^ least) (2 ^ most) =
     c.made.ensures ∙ c.union.ensures ∙ ap (λ z. bit_or z (number c.only-2.result)) first ∙ ap (bit_or (2 ^ least)) second in
     same_from_number (number c.made.result.bits) (bit_or (2 ^ least) (2 ^ most)) (exact_twos carry (set_has x) (set_has y)) is
-    (carries_same n m la lb ta.result.0 tb.result.0 (c.lowest.ensures.found, c.lowest.ensures.least) (c.lowest-2.ensures.found, c.lowest-2.ensures.least)
-    (greatest_from_top n ta.result.0 (number ta.result.1) ta.ensures.0 ta.ensures.1)
-    (greatest_from_top m tb.result.0 (number tb.result.1) tb.ensures.0 tb.ensures.1)
+    (carries_same n m la lb ha hb (c.lowest.ensures.found, c.lowest.ensures.least) (c.lowest-2.ensures.found, c.lowest-2.ensures.least)
+    (greatest_from_top n ha c.highest.ensures.0 c.highest.ensures.1)
+    (greatest_from_top m hb c.highest-2.ensures.0 c.highest-2.ensures.1)
     (omega arith) (omega arith))

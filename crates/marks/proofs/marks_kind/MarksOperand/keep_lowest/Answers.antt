@@ -1,12 +1,9 @@
-use Rattle.std.proofs.Common.{arith}
 use Rattle.operands.specs.Bytes.One.{keep}
 use Rattle.marks.proofs.Closed.{one_within, one_same}
 use Rattle.marks.proofs.marks_kind.MarksOperand.keep_lowest.Goals as goal
 
-pub invariant_of-result : goal.invariant_of-result
-invariant_of-result c =
-    let e = c.kept_ends-low.ensures in
-    record { within = one_within (keep c.args.bits) c.args.self _ _ e.low e.high; small = omega arith }
+pub invariant_of-result-clause-within : goal.invariant_of-result-clause-within
+invariant_of-result-clause-within c = one_within (keep c.args.bits) c.args.self _ _ c.kept_byte.ensures c.kept_byte-2.ensures
 
 pub returns : goal.returns
-returns c = let e = c.kept_ends-low.ensures in one_same (keep c.args.bits) c.args.self _ _ e.low e.high
+returns c = one_same (keep c.args.bits) c.args.self _ _ c.kept_byte.ensures c.kept_byte-2.ensures

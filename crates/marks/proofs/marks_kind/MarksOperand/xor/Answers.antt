@@ -1,12 +1,8 @@
-use Rattle.std.proofs.Common.{arith}
 use Rattle.operands.specs.Bytes.Two.{xor}
-use Rattle.marks.proofs.Closed.{two_within, two_same}
+use Rattle.marks.proofs.Closed.{two_same}
 use Rattle.marks.proofs.marks_kind.MarksOperand.xor.Goals as goal
 
-pub invariant_of-result : goal.invariant_of-result
-invariant_of-result c =
-    let e = c.xor_ends-low.ensures in
-    record { within = two_within xor c.args.self c.args.other _ _ (omega arith) e.low e.high; small = omega arith }
-
 pub returns : goal.returns
-returns c = let e = c.xor_ends-low.ensures in two_same xor c.args.self c.args.other _ _ e.low e.high
+returns c =
+    let e = c.opened.ensures in
+    two_same xor c.args.self c.args.other _ _ (rw (← c.open_in_xor.ensures) e.low) (rw (← c.open_in_xor.ensures) e.high)
