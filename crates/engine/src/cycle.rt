@@ -72,12 +72,9 @@ impl Machine {
         left: &mut L,
         right: &mut R,
     ) -> Result<(), EngineFault>
-        ensures answer { result ≡ (executed instruction (state_of self.old (L.Bank.ports left.old) (R.Bank.ports right.old))).0 }
-        ensures state { state_of self.new (L.Bank.ports left.new) (R.Bank.ports right.new) ≡ (executed instruction (state_of self.old (L.Bank.ports left.old) (R.Bank.ports right.old))).1 }
+        ensures { (result, state_of self.new (L.Bank.ports left.new) (R.Bank.ports right.new)) ≡ executed instruction (state_of self.old (L.Bank.ports left.old) (R.Bank.ports right.old)) }
     {
-        let Some(instruction) = instruction else {
-            return Err(EngineFault::NotPermitted { address: self.ar });
-        };
+        let instruction = instruction.ok_or(EngineFault::NotPermitted { address: self.ar })?;
         if !self.serves(instruction) {
             return Err(EngineFault::NotReady { address: self.ar });
         }
@@ -92,13 +89,10 @@ impl Machine {
         left: &mut L,
         right: &mut R,
     ) -> Result<(), EngineFault>
-        ensures answer { result ≡ (step_of code.now (state_of self.old (L.Bank.ports left.old) (R.Bank.ports right.old))).0 }
-        ensures state { state_of self.new (L.Bank.ports left.new) (R.Bank.ports right.new) ≡ (step_of code.now (state_of self.old (L.Bank.ports left.old) (R.Bank.ports right.old))).1 }
+        ensures { (result, state_of self.new (L.Bank.ports left.new) (R.Bank.ports right.new)) ≡ step_of code.now (state_of self.old (L.Bank.ports left.old) (R.Bank.ports right.old)) }
     {
-        match fetch(code, self.ar as usize) {
-            Some(word) => self.execute(decode(word), left, right),
-            None => Err(EngineFault::Outside { address: self.ar }),
-        }
+        let word = fetch(code, self.ar as usize).ok_or(EngineFault::Outside { address: self.ar })?;
+        self.execute(decode(word), left, right)
     }
 
     fn advance<L: Bank, R: Bank>(
@@ -109,8 +103,7 @@ impl Machine {
         reset: bool,
         halt: bool,
     ) -> Result<(), EngineFault>
-        ensures answer { result ≡ (cycle_of code.now reset halt (state_of self.old (L.Bank.ports left.old) (R.Bank.ports right.old))).0 }
-        ensures state { state_of self.new (L.Bank.ports left.new) (R.Bank.ports right.new) ≡ (cycle_of code.now reset halt (state_of self.old (L.Bank.ports left.old) (R.Bank.ports right.old))).1 }
+        ensures { (result, state_of self.new (L.Bank.ports left.new) (R.Bank.ports right.new)) ≡ cycle_of code.now reset halt (state_of self.old (L.Bank.ports left.old) (R.Bank.ports right.old)) }
     {
         if reset {
             self.go_to(0);

@@ -22,10 +22,7 @@ fn bus_byte(field: Field, value: u8, latch: u8) -> u8
 fn latch_side(origin: Option<Side>, field: Field) -> Side
     ensures { result ≡ latch_side origin field }
 {
-    match origin {
-        Some(side) => side,
-        None => field.side,
-    }
+    origin.unwrap_or(field.side)
 }
 
 impl Machine {
