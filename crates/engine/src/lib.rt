@@ -1,6 +1,7 @@
 // The engine of a module: the machine, its cycle on any code with any two banks, and why it refuses.
 #![tactic(auto)]
 
+mod beside;
 mod bytes;
 mod cycle;
 mod datapath;
