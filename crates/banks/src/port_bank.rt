@@ -29,12 +29,10 @@ impl Bank for PortBank {
     }
 
     fn write(&mut self, port: u8, value: u8) {
-        let record = &mut self.ports[port as usize];
-        record.write(value);
+        self.ports[port as usize].write(value);
     }
 
     fn drive(&mut self, port: u8, value: u8) {
-        let record = &mut self.ports[port as usize];
-        record.drive(value);
+        self.ports[port as usize].drive(value);
     }
 }

@@ -41,13 +41,13 @@ impl Bank for Storage {
     }
 
     fn write(&mut self, port: u8, value: u8) {
-        let byte = self.bytes[port as usize];
-        self.bytes[port as usize] = replaced(value, byte);
+        let byte = &mut self.bytes[port as usize];
+        *byte = replaced(value, *byte);
     }
 
     // No bit is left to drive.
     fn drive(&mut self, port: u8, value: u8) {
-        let byte = self.bytes[port as usize];
-        self.bytes[port as usize] = replaced(byte, value);
+        let byte = &mut self.bytes[port as usize];
+        *byte = replaced(*byte, value);
     }
 }

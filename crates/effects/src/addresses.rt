@@ -8,7 +8,7 @@ use instructions::Source;
 pub fn next_address(address: u16) -> u16
     ensures { result ≡ next_address address }
 {
-    (address % 8_192 + 1) % 8_192
+    address.wrapping_add(1) % 8_192
 }
 
 // How many addresses NZT and XEC reach by a source.
@@ -25,8 +25,6 @@ pub fn page_size(source: Source) -> u16
 pub fn in_page(source: Source, address: u16, value: u16) -> u16
     ensures { result ≡ in_page (page_size source) address value }
 {
-    match source {
-        Source::Register { .. } => address / 256 * 256 + value % 256,
-        Source::Field(_) => address / 32 * 32 + value % 32,
-    }
+    let size = page_size(source);
+    address / size * size + value % size
 }

@@ -68,21 +68,14 @@ fn destination_side(destination: Destination) -> Option<Side>
 fn transmitted_side(destination: Destination) -> Option<Side>
     ensures { result ≡ transmitted_side destination }
 {
-    match destination {
-        Destination::Register(register) => transmit_side(register),
-        Destination::Field(field) => Some(field.side),
-    }
+    whole_port(destination).or(destination_side(destination))
 }
 
 // Whether `used` is the bank `side`.
 pub fn is_side(side: Side, used: Option<Side>) -> bool
     ensures { result ≡ is_side side used }
 {
-    match (used, side) {
-        (Some(Side::Left), Side::Left) => true,
-        (Some(Side::Right), Side::Right) => true,
-        _ => false,
-    }
+    used == Some(side)
 }
 
 // Whether an instruction reads or writes a bank.
@@ -95,8 +88,9 @@ pub fn uses(instruction: Instruction, side: Side) -> bool
             destination,
             ..
         } => { is_side(side, source_side(source)) || is_side(side, destination_side(destination)) }
-        Instruction::Xec { source, .. } => is_side(side, source_side(source)),
-        Instruction::Nzt { source, .. } => is_side(side, source_side(source)),
+        Instruction::Xec { source, .. } | Instruction::Nzt { source, .. } => {
+            is_side(side, source_side(source))
+        }
         Instruction::Xmit { destination, .. } => is_side(side, transmitted_side(destination)),
         Instruction::Jmp { .. } => false,
     }

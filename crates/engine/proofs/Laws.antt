@@ -285,8 +285,11 @@ laws_refused i a =
     }
 
 -- what a cycle answers and leaves
-abbrev Outcome : Type 0
+abbrev pub Outcome : Type 0
 Outcome = Result (Unit {0}) EngineFault × State
+
+abbrev Lawful : List ℕ → Bool → Bool → State → Outcome → Type 0
+Lawful code reset halt a o = CycleLaws code reset halt a o.0 o.1
 
 -- a cycle in which neither line is active
 laws_idle : (code : List ℕ) (a : State) (r : Result (Unit {0}) EngineFault) (b : State) → ((f : EngineFault) → r ≡ Err f → b ≡ a) → ((i : Instruction) → meaning (word_at code a.core.ar) ≡ Some i → InstructionLaws i a b) → CycleLaws code false false a r b
@@ -302,22 +305,22 @@ laws_idle code a r b refused word =
 laws_unchanged : (code : List ℕ) (a : State) (r : Result (Unit {0}) EngineFault) → CycleLaws code false false a r a
 laws_unchanged code a r = laws_idle code a r a (λ f e. refl) (λ i e. laws_refused i a)
 
-laws_served : (code : List ℕ) (a : State) (i : Instruction) (t : Bool) (f : EngineFault) → meaning (word_at code a.core.ar) ≡ Some i → CycleLaws code false false a (cond {A = Outcome} t (Ok tt, performed i a) (Err f, a)).0 (cond {A = Outcome} t (Ok tt, performed i a) (Err f, a)).1
+laws_served : (code : List ℕ) (a : State) (i : Instruction) (t : Bool) (f : EngineFault) → meaning (word_at code a.core.ar) ≡ Some i → Lawful code false false a (cond {A = Outcome} t (Ok tt, performed i a) (Err f, a))
 laws_served code a i false f m = laws_unchanged code a (Err f)
 laws_served code a i true f m =
     laws_idle code a (Ok tt) (performed i a)
     (λ g e. let z : ◌≡◌ {A = ℕ} 0 1 = cc in absurd (omega arith))
     (λ j e. let same : i ≡ j = cc in subst (λ (k : Instruction). InstructionLaws k a (performed i a)) same (laws_performed i a (meaning_spares_r10 (word_at code a.core.ar) i m)))
 
-laws_executed : (code : List ℕ) (a : State) (m : Option Instruction) → meaning (word_at code a.core.ar) ≡ m → CycleLaws code false false a (executed m a).0 (executed m a).1
+laws_executed : (code : List ℕ) (a : State) (m : Option Instruction) → meaning (word_at code a.core.ar) ≡ m → Lawful code false false a (executed m a)
 laws_executed code a None m = laws_unchanged code a _
 laws_executed code a (Some i) m = laws_served code a i (served i a.core) _ m
 
-laws_stepped : (code : List ℕ) (a : State) (t : Bool) (f : EngineFault) → CycleLaws code false false a (cond {A = Outcome} t (executed (meaning (word_at code a.core.ar)) a) (Err f, a)).0 (cond {A = Outcome} t (executed (meaning (word_at code a.core.ar)) a) (Err f, a)).1
+laws_stepped : (code : List ℕ) (a : State) (t : Bool) (f : EngineFault) → Lawful code false false a (cond {A = Outcome} t (executed (meaning (word_at code a.core.ar)) a) (Err f, a))
 laws_stepped code a true f = laws_executed code a (meaning (word_at code a.core.ar)) refl
 laws_stepped code a false f = laws_unchanged code a (Err f)
 
-laws_cycled : (code : List ℕ) (reset halt : Bool) (a : State) → CycleLaws code reset halt a (cycle_of code reset halt a).0 (cycle_of code reset halt a).1
+laws_cycled : (code : List ℕ) (reset halt : Bool) (a : State) → Lawful code reset halt a (cycle_of code reset halt a)
 laws_cycled code false false a = laws_stepped code a (ltb a.core.ar (words_in code)) _
 laws_cycled code true halt a =
     record {
@@ -336,7 +339,5 @@ laws_cycled code false true a =
       word_keeps_laws = λ i w. laws_refused i a;
     }
 
-pub cycle_keeps_laws : (code : List ℕ) (reset halt : Bool) (a : State) (r : Result (Unit {0}) EngineFault) (b : State) → r ≡ (cycle_of code reset halt a).0 → b ≡ (cycle_of code reset halt a).1 → CycleLaws code reset halt a r b
-cycle_keeps_laws code reset halt a r b e f =
-    subst (λ (x : Result (Unit {0}) EngineFault). CycleLaws code reset halt a x b) (sym e)
-    (subst (λ (y : State). CycleLaws code reset halt a (cycle_of code reset halt a).0 y) (sym f) (laws_cycled code reset halt a))
+pub cycle_keeps_laws : (code : List ℕ) (reset halt : Bool) (a : State) (r : Result (Unit {0}) EngineFault) (b : State) → ◌≡◌ {A = Outcome} (r, b) (cycle_of code reset halt a) → CycleLaws code reset halt a r b
+cycle_keeps_laws code reset halt a r b e = subst (Lawful code reset halt a) (sym e) (laws_cycled code reset halt a)

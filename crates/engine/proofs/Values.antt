@@ -1,6 +1,7 @@
 -- Bytes are operands of one member, so what an operation gives is one byte. Assumes nothing.
-use Rattle.std.proofs.Common.{◌≡◌, ℕ, ◌+◌, ◌-◌, ◌/◌, ◌<◌, cond, ltb, Some, None, Option, sym, refl, ap, ◌∙◌, arith}
+use Rattle.std.proofs.Common.{◌≡◌, ℕ, ◌+◌, ◌-◌, ◌/◌, ◌<◌, cond, ltb, Some, None, Option, refl, ap, ◌∙◌, arith}
 use Rattle.std.proofs.lemmas.Bool.Decides.{nat_tests}
+use Rattle.std.specs.Option.{MatchOption, IsSomeAnd}
 use Rattle.instructions.specs.declared.field.Field.{Field}
 use Rattle.instructions.specs.declared.instruction.Operation.{Operation}
 use Rattle.instructions.specs.declared.instruction.Operation.TheVariants.{Move, Add, And, Xor}
@@ -53,9 +54,14 @@ value_carry Add (Some x) y z a b d e s =
 value_carry And k y z a b d e s = ap value_of s
 value_carry Xor k y z a b d e s = ap value_of s
 
+value_taken : (k : Option Byte) (v : Option ℕ) (P : Byte → ℕ → Type 0) → ((x : Byte) (n : ℕ) → P x n → n ≡ x.value) → MatchOption k (v ≡ None) (λ x. IsSomeAnd v (P x)) → v ≡ value_of k
+value_taken None v P q h = h
+value_taken (Some x) None P q h = absurd h
+value_taken (Some x) (Some n) P q h = ap Some (q x n h)
+
 -- the result and the carry of an operation on bytes
-pub value_computed : (o : Operation) (r : Byte × Option Byte) (y z : Byte) (a b : ℕ) (k : Option Byte) → Same (byte_has y) (Only a) → Same (byte_has z) (Only b) → Same (byte_has r.0) (result_bytes byte_operations o (byte_has y) (byte_has z)) → Carried byte_operations o (byte_has y) (byte_has z) r.1 → r.1 ≡ k → (r.0.value ≡ result_byte o a b) × (value_of k ≡ carry_byte o a b)
-value_computed o r y z a b k sy sz sr sk e =
+pub value_computed : (o : Operation) (r : Byte × Option Byte) (y z : Byte) (a b : ℕ) (v : Option ℕ) (P : Byte → ℕ → Type 0) → ((x : Byte) (n : ℕ) → P x n → n ≡ x.value) → Same (byte_has y) (Only a) → Same (byte_has z) (Only b) → Same (byte_has r.0) (result_bytes byte_operations o (byte_has y) (byte_has z)) → Carried byte_operations o (byte_has y) (byte_has z) r.1 → MatchOption r.1 (v ≡ None) (λ x. IsSomeAnd v (P x)) → (r.0.value ≡ result_byte o a b) × (v ≡ carry_byte o a b)
+value_computed o r y z a b v P q sy sz sr sk h =
     let d = value_only y a sy in
     let f = value_only z b sz in
-    (value_result o r.0 y z a b d f sr, ap value_of (sym e) ∙ value_carry o r.1 y z a b d f sk)
+    (value_result o r.0 y z a b d f sr, value_taken r.1 v P q h ∙ value_carry o r.1 y z a b d f sk)

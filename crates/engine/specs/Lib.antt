@@ -4,3 +4,4 @@ pub mod Effects
 pub mod Cycles
 pub mod Laws
 pub mod Runs
+pub mod Loans

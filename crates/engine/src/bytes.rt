@@ -26,8 +26,5 @@ pub(crate) fn compute(operation: Operation, source: u8, r0: u8) -> (u8, Option<u
     ensures { (result.0 ≡ result_byte operation source r0) × (result.1 ≡ carry_byte operation source r0) }
 {
     let (sum, carry) = result(operation, Byte::constant(source), Byte::constant(r0));
-    match carry {
-        Some(carry) => (sum.value, Some(carry.value)),
-        None => (sum.value, None),
-    }
+    (sum.value, carry.map(|carry| carry.value))
 }

@@ -3,9 +3,12 @@ ghost use Rattle.std.specs.Prelude.{◌≡◌, ◌<◌};
 ghost use Rattle.engine.specs.States.{to};
 ghost use Rattle.engine.specs.Effects.{source_byte, performed, served};
 ghost use Rattle.engine.specs.Cycles.{core_of, state_of, executed, step_of, cycle_of};
+ghost use Rattle.engine.specs.Loans.{Does, Gives};
 ghost use Rattle.engine.specs.Laws.{CycleLaws};
 
+use crate::beside::Beside;
 use crate::fault::EngineFault;
+use crate::lines::Lines;
 use crate::machine::Machine;
 use banks::Bank;
 use effects::{in_page, next_address, uses};
@@ -29,112 +32,103 @@ impl Machine {
         self.pc = address;
         self.ar = address;
     }
+}
 
-    fn perform<L: Bank, R: Bank>(&mut self, instruction: Instruction, left: &mut L, right: &mut R)
-        ensures { state_of self.new (L.Bank.ports left.new) (R.Bank.ports right.new) ≡ performed instruction (state_of self.old (L.Bank.ports left.old) (R.Bank.ports right.old)) }
+impl<'a, L: Bank, R: Bank> Beside<'a, L, R> {
+    fn perform(&mut self, instruction: Instruction)
+        ensures { Does L.Bank.ports R.Bank.ports (performed instruction) self.old self.new }
     {
-        let next = next_address(self.pc);
+        let pc = self.machine.pc;
+        let next = next_address(pc);
         match instruction {
             Instruction::Alu {
                 operation,
                 source,
                 destination,
             } => {
-                self.compute(operation, source, destination, left, right);
-                self.go_to(next);
+                self.compute(operation, source, destination);
+                self.machine.go_to(next);
             }
             Instruction::Xmit {
                 constant,
                 destination,
             } => {
-                self.transmit(constant, destination, left, right);
-                self.go_to(next);
+                self.transmit(constant, destination);
+                self.machine.go_to(next);
             }
             Instruction::Nzt { source, offset } => {
-                if self.source(source, left, right) == 0 {
-                    self.go_to(next);
+                if self.source(source) == 0 {
+                    self.machine.go_to(next);
                 } else {
-                    self.go_to(in_page(source, self.pc, offset as u16));
+                    self.machine.go_to(in_page(source, pc, offset as u16));
                 }
             }
             Instruction::Xec { source, offset } => {
-                let byte = self.source(source, left, right);
-                self.ar = in_page(source, self.pc, offset as u16 + byte as u16);
+                let byte = self.source(source);
+                self.machine.ar = in_page(source, pc, offset as u16 + byte as u16);
             }
-            Instruction::Jmp { address } => self.go_to(address % 8_192),
+            Instruction::Jmp { address } => self.machine.go_to(address % 8_192),
         }
     }
 
     // Runs an instruction, if the banks that it uses are ready.
-    fn execute<L: Bank, R: Bank>(
-        &mut self,
-        instruction: Option<Instruction>,
-        left: &mut L,
-        right: &mut R,
-    ) -> Result<(), EngineFault>
-        ensures answer { result ≡ (executed instruction (state_of self.old (L.Bank.ports left.old) (R.Bank.ports right.old))).0 }
-        ensures state { state_of self.new (L.Bank.ports left.new) (R.Bank.ports right.new) ≡ (executed instruction (state_of self.old (L.Bank.ports left.old) (R.Bank.ports right.old))).1 }
+    fn execute(&mut self, instruction: Option<Instruction>) -> Result<(), EngineFault>
+        ensures { Gives L.Bank.ports R.Bank.ports (executed instruction) self.old self.new result }
     {
-        let Some(instruction) = instruction else {
-            return Err(EngineFault::NotPermitted { address: self.ar });
-        };
-        if !self.serves(instruction) {
-            return Err(EngineFault::NotReady { address: self.ar });
+        let instruction = instruction.ok_or(EngineFault::NotPermitted {
+            address: self.machine.ar,
+        })?;
+        if !self.machine.serves(instruction) {
+            return Err(EngineFault::NotReady {
+                address: self.machine.ar,
+            });
         }
-        self.perform(instruction, left, right);
+        self.perform(instruction);
         Ok(())
     }
 
     // Runs the word at the address register.
-    fn step<L: Bank, R: Bank>(
-        &mut self,
-        code: &[u8],
-        left: &mut L,
-        right: &mut R,
-    ) -> Result<(), EngineFault>
-        ensures answer { result ≡ (step_of code.now (state_of self.old (L.Bank.ports left.old) (R.Bank.ports right.old))).0 }
-        ensures state { state_of self.new (L.Bank.ports left.new) (R.Bank.ports right.new) ≡ (step_of code.now (state_of self.old (L.Bank.ports left.old) (R.Bank.ports right.old))).1 }
+    fn step(&mut self, code: &[u8]) -> Result<(), EngineFault>
+        ensures { Gives L.Bank.ports R.Bank.ports (step_of code.now) self.old self.new result }
     {
-        match fetch(code, self.ar as usize) {
-            Some(word) => self.execute(decode(word), left, right),
-            None => Err(EngineFault::Outside { address: self.ar }),
-        }
+        let word = fetch(code, self.machine.ar as usize).ok_or(EngineFault::Outside {
+            address: self.machine.ar,
+        })?;
+        self.execute(decode(word))
     }
 
-    fn advance<L: Bank, R: Bank>(
-        &mut self,
-        code: &[u8],
-        left: &mut L,
-        right: &mut R,
-        reset: bool,
-        halt: bool,
-    ) -> Result<(), EngineFault>
-        ensures answer { result ≡ (cycle_of code.now reset halt (state_of self.old (L.Bank.ports left.old) (R.Bank.ports right.old))).0 }
-        ensures state { state_of self.new (L.Bank.ports left.new) (R.Bank.ports right.new) ≡ (cycle_of code.now reset halt (state_of self.old (L.Bank.ports left.old) (R.Bank.ports right.old))).1 }
+    fn advance(&mut self, code: &[u8], lines: Lines) -> Result<(), EngineFault>
+        ensures { Gives L.Bank.ports R.Bank.ports (cycle_of code.now lines.reset lines.halt) self.old self.new result }
     {
-        if reset {
-            self.go_to(0);
+        if lines.reset {
+            self.machine.go_to(0);
             return Ok(());
         }
-        if halt {
+        if lines.halt {
             return Ok(());
         }
-        self.step(code, left, right)
+        self.step(code)
     }
+}
 
-    // One cycle with the reset and halt lines as given. A refusal changes neither machine nor banks.
+impl Machine {
+    // One cycle with the lines as given. A refusal changes neither machine nor banks.
     pub fn cycle<L: Bank, R: Bank>(
         &mut self,
         code: &[u8],
         left: &mut L,
         right: &mut R,
-        reset: bool,
-        halt: bool,
+        lines: Lines,
     ) -> Result<(), EngineFault>
-        ensures answer { result ≡ (cycle_of code.now reset halt (state_of self.old (L.Bank.ports left.old) (R.Bank.ports right.old))).0 }
-        ensures state { state_of self.new (L.Bank.ports left.new) (R.Bank.ports right.new) ≡ (cycle_of code.now reset halt (state_of self.old (L.Bank.ports left.old) (R.Bank.ports right.old))).1 }
-        ensures laws { CycleLaws code.now reset halt (state_of self.old (L.Bank.ports left.old) (R.Bank.ports right.old)) result (state_of self.new (L.Bank.ports left.new) (R.Bank.ports right.new)) }
+        ensures answer { result ≡ (cycle_of code.now lines.reset lines.halt (state_of self.old (L.Bank.ports left.old) (R.Bank.ports right.old))).0 }
+        ensures state { state_of self.new (L.Bank.ports left.new) (R.Bank.ports right.new) ≡ (cycle_of code.now lines.reset lines.halt (state_of self.old (L.Bank.ports left.old) (R.Bank.ports right.old))).1 }
+        ensures laws { CycleLaws code.now lines.reset lines.halt (state_of self.old (L.Bank.ports left.old) (R.Bank.ports right.old)) result (state_of self.new (L.Bank.ports left.new) (R.Bank.ports right.new)) }
     {
-        self.advance(code, left, right, reset, halt)
+        Beside {
+            machine: self,
+            left,
+            right,
+        }
+        .advance(code, lines)
     }
 }

@@ -3,8 +3,10 @@ ghost use Rattle.std.specs.Prelude.{◌≡◌, ◌<◌};
 ghost use Rattle.engine.specs.States.{register_of, port_byte, stored, with_byte};
 ghost use Rattle.effects.specs.Usage.{selector as selector_of};
 ghost use Rattle.engine.specs.Effects.{source_byte, latch_side, bus_byte, delivered, computed, transmitted, overflowed};
-ghost use Rattle.engine.specs.Cycles.{core_of, state_of};
+ghost use Rattle.engine.specs.Cycles.{core_of};
+ghost use Rattle.engine.specs.Loans.{seen, Does};
 
+use crate::beside::Beside;
 use crate::bytes::{compute, field_byte, rotated};
 use crate::machine::Machine;
 use banks::{Bank, merge};
@@ -22,10 +24,7 @@ fn bus_byte(field: Field, value: u8, latch: u8) -> u8
 fn latch_side(origin: Option<Side>, field: Field) -> Side
     ensures { result ≡ latch_side origin field }
 {
-    match origin {
-        Some(side) => side,
-        None => field.side,
-    }
+    origin.unwrap_or(field.side)
 }
 
 impl Machine {
@@ -40,37 +39,6 @@ impl Machine {
         ensures { result ≡ register_of self.now.registers (selector_of side) }
     {
         self.register(selector(side))
-    }
-
-    // The byte of a bank's selected port.
-    fn read<L: Bank, R: Bank>(&self, side: Side, left: &L, right: &R) -> u8
-        ensures { result ≡ port_byte side (state_of self.now (L.Bank.ports left.now) (R.Bank.ports right.now)) }
-    {
-        let port = self.selected(side);
-        match side {
-            Side::Left => left.read(port),
-            Side::Right => right.read(port),
-        }
-    }
-
-    // A value written to a bank's selected port.
-    fn write<L: Bank, R: Bank>(&self, side: Side, value: u8, left: &mut L, right: &mut R)
-        ensures { state_of self.now (L.Bank.ports left.new) (R.Bank.ports right.new) ≡ with_byte side value (state_of self.now (L.Bank.ports left.old) (R.Bank.ports right.old)) }
-    {
-        let port = self.selected(side);
-        match side {
-            Side::Left => left.write(port, value),
-            Side::Right => right.write(port, value),
-        }
-    }
-
-    pub(crate) fn source<L: Bank, R: Bank>(&self, source: Source, left: &L, right: &R) -> u8
-        ensures { result ≡ source_byte source (state_of self.now (L.Bank.ports left.now) (R.Bank.ports right.now)) }
-    {
-        match source {
-            Source::Register { register, rotate } => rotated(self.register(register), rotate),
-            Source::Field(field) => field_byte(self.read(field.side, left, right), field),
-        }
     }
 
     // A value stored in a register. A store in R7 or R17 selects a port of its bank.
@@ -93,61 +61,73 @@ impl Machine {
             self.store(Register::R10, carry);
         }
     }
+}
+
+impl<'a, L: Bank, R: Bank> Beside<'a, L, R> {
+    // The byte of a bank's selected port.
+    fn read(&self, side: Side) -> u8
+        ensures { result ≡ port_byte side (seen L.Bank.ports R.Bank.ports self.now) }
+    {
+        let port = self.machine.selected(side);
+        match side {
+            Side::Left => self.left.read(port),
+            Side::Right => self.right.read(port),
+        }
+    }
+
+    // A value written to a bank's selected port.
+    fn write(&mut self, side: Side, value: u8)
+        ensures { Does L.Bank.ports R.Bank.ports (with_byte side value) self.old self.new }
+    {
+        let port = self.machine.selected(side);
+        match side {
+            Side::Left => self.left.write(port, value),
+            Side::Right => self.right.write(port, value),
+        }
+    }
+
+    pub(crate) fn source(&self, source: Source) -> u8
+        ensures { result ≡ source_byte source (seen L.Bank.ports R.Bank.ports self.now) }
+    {
+        match source {
+            Source::Register { register, rotate } => rotated(
+                self.machine.register(register),
+                rotate,
+            ),
+            Source::Field(field) => field_byte(self.read(field.side), field),
+        }
+    }
 
     // A result goes to a register, or to a field of its bank's selected port.
-    fn deliver<L: Bank, R: Bank>(
-        &mut self,
-        destination: Destination,
-        value: u8,
-        origin: Option<Side>,
-        left: &mut L,
-        right: &mut R,
-    )
-        ensures { state_of self.new (L.Bank.ports left.new) (R.Bank.ports right.new) ≡ delivered destination value origin (state_of self.old (L.Bank.ports left.old) (R.Bank.ports right.old)) }
+    fn deliver(&mut self, destination: Destination, value: u8, origin: Option<Side>)
+        ensures { Does L.Bank.ports R.Bank.ports (delivered destination value origin) self.old self.new }
     {
         match destination {
-            Destination::Register(register) => self.store(register, value),
+            Destination::Register(register) => self.machine.store(register, value),
             Destination::Field(field) => {
-                let byte = bus_byte(
-                    field,
-                    value,
-                    self.read(latch_side(origin, field), left, right),
-                );
-                self.write(field.side, byte, left, right);
+                let byte = bus_byte(field, value, self.read(latch_side(origin, field)));
+                self.write(field.side, byte);
             }
         }
     }
 
     // MOVE, ADD, AND and XOR, but for the addresses.
-    pub(crate) fn compute<L: Bank, R: Bank>(
-        &mut self,
-        operation: Operation,
-        source: Source,
-        destination: Destination,
-        left: &mut L,
-        right: &mut R,
-    )
-        ensures { state_of self.new (L.Bank.ports left.new) (R.Bank.ports right.new) ≡ computed operation source destination (state_of self.old (L.Bank.ports left.old) (R.Bank.ports right.old)) }
+    pub(crate) fn compute(&mut self, operation: Operation, source: Source, destination: Destination)
+        ensures { Does L.Bank.ports R.Bank.ports (computed operation source destination) self.old self.new }
     {
-        let byte = self.source(source, left, right);
-        let (result, carry) = compute(operation, byte, self.register(Register::R0));
-        self.overflow(carry);
-        self.deliver(destination, result, source_side(source), left, right);
+        let byte = self.source(source);
+        let (result, carry) = compute(operation, byte, self.machine.register(Register::R0));
+        self.machine.overflow(carry);
+        self.deliver(destination, result, source_side(source));
     }
 
     // XMIT, but for the addresses.
-    pub(crate) fn transmit<L: Bank, R: Bank>(
-        &mut self,
-        constant: u8,
-        destination: Destination,
-        left: &mut L,
-        right: &mut R,
-    )
-        ensures { state_of self.new (L.Bank.ports left.new) (R.Bank.ports right.new) ≡ transmitted destination constant (state_of self.old (L.Bank.ports left.old) (R.Bank.ports right.old)) }
+    pub(crate) fn transmit(&mut self, constant: u8, destination: Destination)
+        ensures { Does L.Bank.ports R.Bank.ports (transmitted destination constant) self.old self.new }
     {
         match whole_port(destination) {
-            Some(side) => self.write(side, constant, left, right),
-            None => self.deliver(destination, constant, None, left, right),
+            Some(side) => self.write(side, constant),
+            None => self.deliver(destination, constant, None),
         }
     }
 }

@@ -2,6 +2,8 @@
 ghost use Rattle.std.specs.Prelude.{◌≡◌, Some};
 ghost use Rattle.engine.specs.Faults.{reported, fault_text};
 
+use faults::Fault;
+use std::error::Error;
 use std::fmt;
 
 #[derive(Clone, Copy, PartialEq, Eq, Debug)]
@@ -16,30 +18,19 @@ pub enum EngineFault {
     NotReady { address: u16 },
 }
 
-impl EngineFault {
-    // How the fault is reported: its number and its place.
-    fn report(self) -> (u8, u16)
-        ensures { result ≡ reported self }
-    {
+impl Fault for EngineFault {
+    // an address
+    type Place = u16;
+
+    ghost reported = { reported };
+
+    fn report(self) -> (u8, u16) {
         match self {
             EngineFault::RunLength => (16, 0),
             EngineFault::Outside { address } => (17, address),
             EngineFault::NotPermitted { address } => (18, address),
             EngineFault::NotReady { address } => (19, address),
         }
-    }
-
-    pub fn number(self) -> u8
-        ensures { result ≡ (reported self).0 }
-    {
-        self.report().0
-    }
-
-    // The address at which the fault is reported.
-    pub fn place(self) -> u16
-        ensures { result ≡ (reported self).1 }
-    {
-        self.report().1
     }
 }
 
@@ -53,3 +44,5 @@ impl fmt::Display for EngineFault {
         write!(f, "engine {number} at {place}")
     }
 }
+
+impl Error for EngineFault {}

@@ -1,12 +1,11 @@
-use Rattle.std.proofs.Common.{◌≡◌, set, ap, arith}
+use Rattle.std.proofs.Common.{set, ap, arith}
 use Rattle.banks.specs.declared.port.Port.{Port}
-use Rattle.banks.specs.Ports.{port_at, driven_at}
+use Rattle.banks.specs.Ports.{port_at}
 use Rattle.banks.proofs.Ports.{merges}
 use Rattle.banks.proofs.port_bank.PortBankBank.drive.Goals as goal
 
-pub returns : goal.returns
-returns c =
+pub returns-clause-merged : goal.returns-clause-merged
+returns-clause-merged c =
     let ps = c.args.self.now.ports in
     let k = c.args.port in
-    let stored : _ ≡ driven_at k c.args.value ps = ap (λ (p : Port). set ps k p) c.drive.ensures in
-    record { driven = stored; merged = merges ps _ k (port_at ps k).byte c.args.value (omega (arith, c.args.self.now.full)) stored }
+    merges ps _ k (port_at ps k).byte c.args.value (omega (arith, c.args.self.now.full)) (ap (λ (p : Port). set ps k p) c.drive.ensures)
