@@ -1,5 +1,5 @@
+pub mod Ranges
 pub mod Parts
-pub mod Jumps
 pub mod Spans
 pub mod Storing
 pub mod Monotone

@@ -7,6 +7,7 @@ mod breach;
 mod entry;
 mod memory;
 mod sources;
+mod status;
 mod targets;
 mod ways;
 
@@ -15,5 +16,6 @@ pub use breach::Breach;
 pub use entry::Entry;
 pub use memory::entry_at;
 pub use sources::{register_operand, source_operand};
+pub use status::Status;
 pub use targets::{first_target, instruction_at, is_xec, reaches, target_count};
 pub use ways::{jump, onward};

@@ -1,23 +1,11 @@
 // Entries in memory.
-ghost use Rattle.std.specs.Prelude.{◌≡◌, ℕ, ◌/◌, ◌%◌, Some, None, ◌==◌};
+ghost use Rattle.std.specs.Prelude.{◌≡◌, Some, None};
 ghost use Rattle.flow.specs.Entries.{Room, Entered};
 
 use crate::entry::Entry;
+use crate::status::Status;
+use instructions::Side;
 use operands::Operand;
-
-// Whether a status byte marks the left bank as one that may be unready.
-fn left_mark(status: u8) -> bool
-    ensures { result ≡ (status / 2 % 2 == 1) }
-{
-    status / 2 % 2 == 1
-}
-
-// The same of the right bank.
-fn right_mark(status: u8) -> bool
-    ensures { result ≡ (status / 4 % 2 == 1) }
-{
-    status / 4 % 2 == 1
-}
 
 // The entry of an address, or none where the memory is too short for it.
 pub fn entry_at<K: Operand>(operands: &[K], status: &[u8], address: u16) -> Option<Entry<K>>
@@ -25,16 +13,11 @@ pub fn entry_at<K: Operand>(operands: &[K], status: &[u8], address: u16) -> Opti
     ensures entry { (e : Entry K) → result ≡ Some e → Room address status.now operands.now × Entered K.Operand.operations status.now operands.now address e }
 {
     let word = address as usize;
-    if word >= status.len() || operands.len() < 16 * word + 16 {
-        return None;
-    }
-    let mut copied = [operands[16 * word]; 16];
-    for register in 1..16 {
-        copied[register] = operands[16 * word + register];
-    }
+    let status = Status(*status.get(word)?);
+    let operands = operands.get(16 * word..)?.first_chunk::<16>()?;
     Some(Entry {
-        operands: copied,
-        left: left_mark(status[word]),
-        right: right_mark(status[word]),
+        operands: *operands,
+        left: status.may_be_unready(Side::Left),
+        right: status.may_be_unready(Side::Right),
     })
 }

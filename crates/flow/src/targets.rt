@@ -18,19 +18,13 @@ use words::{decode, fetch};
 pub fn instruction_at(code: &[u8], address: u16) -> Option<Instruction>
     ensures { result ≡ (if nat_lt address (words_in code.now) then instruction_at code.now address else None) }
 {
-    match fetch(code, address as usize) {
-        Some(word) => decode(word),
-        None => None,
-    }
+    decode(fetch(code, address as usize)?)
 }
 
 pub fn is_xec(instruction: Instruction) -> bool
     ensures { result ≡ is_xec instruction }
 {
-    match instruction {
-        Instruction::Xec { .. } => true,
-        _ => false,
-    }
+    matches!(instruction, Instruction::Xec { .. })
 }
 
 // The lowest address that an instruction at `address` can make run.
@@ -38,18 +32,10 @@ pub fn first_target(instruction: Option<Instruction>, address: u16) -> u16
     ensures { result ≡ first_target instruction address }
 {
     match instruction {
-        Some(
-            Instruction::Xec {
-                source: Source::Register { .. },
-                ..
-            },
-        ) => address / 256 * 256,
-        Some(
-            Instruction::Xec {
-                source: Source::Field(_),
-                ..
-            },
-        ) => address / 32 * 32,
+        Some(Instruction::Xec { source, .. }) => {
+            let page = page_size(source);
+            address / page * page
+        }
         _ => address,
     }
 }
@@ -77,12 +63,7 @@ fn hits_by_field<K: Operand>(x: K, offset: u8, place: u8) -> bool
     ensures { Decides result (Hits (K.Operand.operations.has x) 32 offset place) }
 {
     let least = (place + 32 - offset % 32) % 32;
-    for k in 0..8u8 {
-        if x.contains(least + 32 * k) {
-            return true;
-        }
-    }
-    false
+    (0..8u8).any(|k| x.contains(least + 32 * k))
 }
 
 // Whether an XEC at `from`, by the operand x of its source, may run the word at `to`.

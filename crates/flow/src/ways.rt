@@ -14,6 +14,7 @@ use operands::{Operand, Spreading};
 fn has_more<K: Operand>(x: K) -> bool
     ensures { Decides result ((b : ℕ) × (K.Operand.operations.has x b × (b ≢ 0))) }
 {
+    // a loop, since std has no lemma on what a call of `any` over an inclusive range tells
     for b in 1..=255u8 {
         if x.contains(b) {
             return true;
@@ -28,8 +29,7 @@ fn goes_on<K: Spreading>(instruction: Instruction, entry: Entry<K>) -> bool
 {
     match instruction {
         Instruction::Nzt { source, .. } => source_operand(source, entry).contains(0),
-        Instruction::Xec { .. } => false,
-        Instruction::Jmp { .. } => false,
+        Instruction::Xec { .. } | Instruction::Jmp { .. } => false,
         _ => true,
     }
 }
@@ -38,11 +38,7 @@ fn goes_on<K: Spreading>(instruction: Instruction, entry: Entry<K>) -> bool
 pub fn onward<K: Spreading>(instruction: Instruction, entry: Entry<K>, address: u16) -> Option<u16>
     ensures { (q : ℕ) → (result ≡ Some q → (q ≡ next_address address) × GoesOn K.Operand.operations instruction (allows K.Operand.operations entry)) × ((q ≡ next_address address) × GoesOn K.Operand.operations instruction (allows K.Operand.operations entry) → result ≡ Some q) }
 {
-    if goes_on(instruction, entry) {
-        Some(next_address(address))
-    } else {
-        None
-    }
+    goes_on(instruction, entry).then_some(next_address(address))
 }
 
 // The address to which the instruction may jump.
@@ -51,11 +47,11 @@ pub fn jump<K: Spreading>(instruction: Instruction, entry: Entry<K>, address: u1
 {
     match instruction {
         Instruction::Nzt { source, offset } => {
-            if has_more(source_operand(source, entry)) {
-                Some(in_page(source, address, offset as u16))
-            } else {
-                None
-            }
+            has_more(source_operand(source, entry)).then_some(in_page(
+                source,
+                address,
+                offset as u16,
+            ))
         }
         Instruction::Jmp { address } => Some(address % 8_192),
         _ => None,

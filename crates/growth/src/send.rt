@@ -1,40 +1,35 @@
 // Sending an entry to a word: the word's entry then allows what it allowed and what the new one allows.
-ghost use Rattle.std.specs.Prelude.{◌≡◌, ◌+◌, ◌/◌, ◌%◌, not, ◌&&◌, ◌==◌};
-ghost use Rattle.growth.specs.Memory.{Room, due_status};
+ghost use Rattle.std.specs.Prelude.{◌≡◌, ◌+◌, not, ◌&&◌};
+ghost use Rattle.flow.specs.Tables.{has_entry, has_mark};
+ghost use Rattle.growth.specs.Memory.{Room};
 ghost use Rattle.growth.specs.Growth.{Blended, Flowed, Sent};
 
-use flow::Entry;
+use crate::due::due_status;
+use flow::{Entry, Status};
+use instructions::Side;
 use operands::{Operand, Spreading};
 
-// The operand of a word after `new` was sent to it, and whether it changed; a word without an entry has no old operand.
-fn blend<K: Spreading>(bare: bool, old: K, new: K) -> (K, bool)
-    ensures { Blended K.Operand.operations K.Spreading.joined K.Spreading.rank bare old new result.0 result.1 }
+// Puts an operand of a new entry to the old one of a word, and tells whether that changed it. A word without an entry has no
+// old operand.
+fn blend<K: Spreading>(bare: bool, operand: &mut K, new: K) -> bool
+    ensures { Blended K.Operand.operations K.Spreading.joined K.Spreading.rank bare operand.old new operand.new result }
 {
     if bare {
-        return (new, true);
+        *operand = new;
+        return true;
     }
-    let (joined, added) = old.join(new);
-    if added { (joined, true) } else { (old, false) }
+    let (joined, added) = operand.join(new);
+    if added {
+        *operand = joined;
+    }
+    added
 }
 
-pub(crate) fn has_entry(status: u8) -> bool
-    ensures { result ≡ (status % 2 == 1) }
+// Whether a word has an entry in which a bank may be unready.
+fn had_mark(status: Status, side: Side) -> bool
+    ensures { result ≡ (has_entry status.0 && has_mark side status.0) }
 {
-    status % 2 == 1
-}
-
-// Whether a word has an entry with the left mark.
-fn left_mark(status: u8) -> bool
-    ensures { result ≡ (status % 2 == 1 && status / 2 % 2 == 1) }
-{
-    has_entry(status) && status / 2 % 2 == 1
-}
-
-// The same of the right mark.
-fn right_mark(status: u8) -> bool
-    ensures { result ≡ (status % 2 == 1 && status / 4 % 2 == 1) }
-{
-    has_entry(status) && status / 4 % 2 == 1
+    status.has_entry() && status.may_be_unready(side)
 }
 
 fn is_new(mark: bool, had: bool) -> bool
@@ -43,26 +38,18 @@ fn is_new(mark: bool, had: bool) -> bool
     mark && !had
 }
 
-// The status byte of a word that is due.
-fn due_status(left: bool, right: bool) -> u8
-    ensures { result ≡ due_status left right }
-{
-    9 + 2 * left as u8 + 4 * right as u8
-}
-
 // Sends an entry to the word q.
 pub(crate) fn send<K: Spreading>(operands: &mut [K], status: &mut [u8], q: usize, new: Entry<K>)
     requires { Room (q + 1) status.old operands.old }
     ensures { Flowed K.Operand.operations K.Spreading.joined K.Spreading.rank K.Spreading.top q new status.old operands.old status.new operands.new }
 {
-    let bare = !has_entry(status[q]);
-    let left = left_mark(status[q]);
-    let right = right_mark(status[q]);
+    let old = Status(status[q]);
+    let bare = !old.has_entry();
+    let left = had_mark(old, Side::Left);
+    let right = had_mark(old, Side::Right);
     let mut risen = bare | is_new(new.left, left) | is_new(new.right, right);
     for r in 0..16 {
-        let (made, added) = blend(bare, operands[16 * q + r], new.operands[r]);
-        operands[16 * q + r] = made;
-        risen = risen | added;
+        risen |= blend(bare, &mut operands[16 * q + r], new.operands[r]);
     }
     if risen {
         status[q] = due_status(new.left | left, new.right | right);

@@ -30,16 +30,7 @@ fn runs_at<K: Spreading>(
     if !reaches(here, entry, p, a) {
         return None;
     }
-    match instruction_at(code, a) {
-        Some(instruction) => {
-            if is_xec(instruction) {
-                None
-            } else {
-                Some(instruction)
-            }
-        }
-        None => None,
-    }
+    instruction_at(code, a).filter(|instruction| !is_xec(*instruction))
 }
 
 // Sends an instruction that runs at p on to where it goes.

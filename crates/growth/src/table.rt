@@ -1,12 +1,13 @@
 // The growth: from the entry of the start, each word that is due is sent on, the lowest first, until none is.
-ghost use Rattle.std.specs.Prelude.{◌≡◌, ℕ, ◌<◌, ◌≤◌, length, Some, None, slice_index};
+ghost use Rattle.std.specs.Prelude.{◌≡◌, ℕ, ◌<◌, ◌≤◌, length, Some, None, slice_index, MatchOption};
 ghost use Rattle.words.specs.Code.{words_in};
 ghost use Rattle.growth.specs.Memory.{Room, Quiet, entries_in};
 ghost use Rattle.growth.specs.Growth.{Grown, Lacks};
 
-use crate::send::{has_entry, send};
+use crate::due::is_due;
+use crate::send::send;
 use crate::step::step;
-use flow::start_entry;
+use flow::{Status, start_entry};
 use operands::{Operand, Spreading};
 use words::word_count;
 
@@ -16,24 +17,16 @@ fn clear(status: &mut [u8], n: usize)
     ensures zero { (k : ℕ) → k < n → slice_index status.new k ≡ 0 }
     ensures rest { (k : ℕ) → n ≤ k → slice_index status.new k ≡ slice_index status.old k }
 {
-    for p in 0..n {
-        status[p] = 0;
-    }
+    status[..n].fill(0);
 }
 
-// The lowest word that is due, or n; none is due below `low`.
-fn lowest(status: &[u8], low: usize, n: usize) -> usize
+// The lowest word that is due; none is due below `low`.
+fn lowest(status: &[u8], low: usize, n: usize) -> Option<usize>
     requires bytes { n ≤ length status.now }
     requires quiet { Quiet status.now low }
-    ensures due { result < n → 8 ≤ slice_index status.now result }
-    ensures quiet { Quiet status.now result }
+    ensures { MatchOption result (Quiet status.now n) (λ p. (p < n) × (8 ≤ slice_index status.now p) × Quiet status.now p) }
 {
-    for p in low..n {
-        if status[p] >= 8 {
-            return p;
-        }
-    }
-    n
+    (low..n).find(|p| is_due(status[*p]))
 }
 
 // How many words have an entry.
@@ -41,11 +34,10 @@ fn count_entries(status: &[u8], n: usize) -> usize
     requires { n ≤ length status.now }
     ensures { result ≡ entries_in status.now n }
 {
-    let mut count = 0;
-    for p in 0..n {
-        count += has_entry(status[p]) as usize;
-    }
-    count
+    status[..n]
+        .iter()
+        .filter(|byte| Status(**byte).has_entry())
+        .count()
 }
 
 fn fill<K: Spreading>(code: &[u8], operands: &mut [K], status: &mut [u8])
@@ -57,11 +49,7 @@ fn fill<K: Spreading>(code: &[u8], operands: &mut [K], status: &mut [u8])
     clear(status, n);
     send(operands, status, 0, start_entry());
     let mut low = 0;
-    loop {
-        let p = lowest(status, low, n);
-        if p >= n {
-            break;
-        }
+    while let Some(p) = lowest(status, low, n) {
         low = step(code, operands, status, p as u16);
     }
 }

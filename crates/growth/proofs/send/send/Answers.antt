@@ -12,11 +12,11 @@ loop-r-preserved g c =
     let q = c.args.q in
     let lt : 16 * q + c.loop-r.r < length c.loop-r.operands = omega arith in
     let few : c.loop-r.r < length new.operands = omega arith in
-    partly_more o g.K.Spreading.joined g.K.Spreading.rank g.K.Spreading.top _ _ q new.operands c.args.operands.now c.loop-r.r c.loop-r.risen c.loop-r.operands c.blend-made.result.0 c.blend-made.result.1 lt c.loop-r.invariant
-    c.index-operands-q.result (get_or new.operands c.loop-r.r c.index-new-r.result)
-    (get_or_read c.loop-r.operands _ c.index-operands-q.result lt c.index-operands-q.is o.some)
+    partly_more o g.K.Spreading.joined g.K.Spreading.rank g.K.Spreading.top _ _ q new.operands c.args.operands.now c.loop-r.r c.loop-r.risen c.loop-r.operands c.blend-risen.new.operand c.blend-risen.result lt c.loop-r.invariant
+    (get_or c.loop-r.operands (16 * q + c.loop-r.r) c.index-operands-q.result) (get_or new.operands c.loop-r.r c.index-new-r.result)
+    (sym c.index-operands-q.is ∙ get_or_read c.loop-r.operands _ c.index-operands-q.result lt c.index-operands-q.is o.some)
     (sym c.index-new-r.is ∙ get_or_read new.operands c.loop-r.r c.index-new-r.result few c.index-new-r.is o.some)
-    c.blend-made.ensures
+    c.blend-risen.ensures
 
 pub returns-then-risen : goal.returns-then-risen
 returns-then-risen g c =
@@ -33,8 +33,8 @@ returns-else-risen g c =
     c.args.q c.args.new c.args.operands.now c.args.status.now c.loop-r.operands
     _ _ c.loop-r.r c.loop-r.risen (cc) (cc) all c.if-risen.false c.loop-r.invariant
 
-pub offset_bounds-operands-q-in-loop-r : goal.offset_bounds-operands-q-in-loop-r
-offset_bounds-operands-q-in-loop-r g c =
+pub offset_bounds-operands-q : goal.offset_bounds-operands-q
+offset_bounds-operands-q g c =
     let n = length c.args.operands.now in
     let i = 16 * c.args.q + c.loop-r.r in
     let inside : i ≤ n = omega arith in

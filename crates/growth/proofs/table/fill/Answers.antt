@@ -42,7 +42,7 @@ returns g c =
     let n = words_in code in
     let words = c.word_count-n.ensures in
     growing_end o g.K.Spreading.joined code c.args.status.now c.args.operands.now c.clear.new.status c.loop-p.status c.loop-p.operands
-    (λ k h. c.lowest-p.ensures.quiet k (omega arith))
+    (λ k h. c.in_default.ensures k (omega arith))
     (λ k h. c.clear.ensures.rest k (omega arith))
     (kept_then o n c.clear.new.status c.args.operands.now c.send.new.status c.send.new.operands c.loop-p.status c.loop-p.operands
     (eased_flow o g.K.Spreading.rank g.K.Spreading.top n g.K.Spreading.joined 0 c.start_entry.result c.clear.new.status c.args.operands.now c.send.new.status c.send.new.operands c.requires.full c.send.ensures).kept
