@@ -1,5 +1,5 @@
 -- From growth and scan to the answer of the check. Assumes nothing.
-use Rattle.std.proofs.Common.{◌≡◌, ℕ, ◌*◌, ◌<◌, List, length, take, drop, Ok, Err, sym, refl, subst, inl, inr, ⊎_elim, arith}
+use Rattle.std.proofs.Common.{◌≡◌, ℕ, ◌*◌, ◌<◌, List, length, take, drop, Some, None, Option, Ok, Err, sym, refl, subst, inl, inr, ⊎_elim, arith}
 use Rattle.std.proofs.lemmas.Bool.{cases_lt}
 use Rattle.image.specs.Parts.{part_bytes, IsCode, IsGrants}
 use Rattle.image.specs.declared.part.Part.{Part}
@@ -11,18 +11,23 @@ use Rattle.flow.specs.declared.breach.Breach.{Breach}
 use Rattle.flow.specs.Tables.{table_of}
 use Rattle.growth.specs.Memory.{entries_in}
 use Rattle.growth.specs.Growth.{JoinIsLeast, Lacks, Grown}
-use Rattle.scan.specs.declared.verdict.Verdict.{Verdict}
-use Rattle.scan.specs.declared.verdict.Verdict.TheVariants as verdict
+use Rattle.scan.specs.declared.fault.ScanFault.{ScanFault}
+use Rattle.scan.specs.declared.fault.ScanFault.TheVariants as scanned
 use Rattle.scan.specs.Verdicts.{Clear, Lowest, Suffices, Scanned}
 use Rattle.scan.proofs.Larger.{lowest_dooms}
 use Rattle.calls.proofs.Promise.{promise_kept}
 use Rattle.checker.specs.declared.fault.CheckFault.TheVariants as fault
 use Rattle.checker.specs.declared.acceptance.Acceptance.{Acceptance}
-use Rattle.checker.specs.Judging.{answer_to, LeastTable, Judged}
+use Rattle.checker.specs.Passing.{scan_passed}
+use Rattle.checker.specs.Judging.{LeastTable, Judged}
 
 -- a memory that lacks nothing has a word
 some_word : {K : Type 0} (n : ℕ) (status : List ℕ) (operands : List K) → (Lacks n status operands → ⊥) → 0 < n
 some_word n status operands room = ⊎_elim (λ h. h) (λ h. absurd (room (inl (omega arith)))) (cases_lt 0 n)
+
+-- what answers a number is not refused
+pub not_refused : {Refused : Type 0} (r : Option ℕ) (k : ℕ) → r ≡ Some k → (Refused → r ≡ None) → Refused → ⊥
+not_refused r k some none refused = let e = none refused in let z : ◌≡◌ {A = ℕ} 0 1 = cc in absurd (omega arith)
 
 pub room_suffices : {K : Type 0} (n : ℕ) (status status' : List ℕ) (operands operands' : List K) → length status' ≡ length status → length operands' ≡ length operands → (Lacks n status operands → ⊥) → Suffices n status' operands'
 room_suffices n status status' operands operands' es eo room =
@@ -55,7 +60,7 @@ module _ {K : Type 0} (o : Operations K) (l : Lawful o) (joined : K → K → By
           bare = grown.bare;
         }
 
-    judged_clear : (a : Acceptance) → a.words ≡ words_in code → a.reached ≡ entries_in status' (words_in code) → Clear o code grants (table_of o status' operands') → Judged o code grants status operands status' operands' (Ok a)
+    pub judged_clear : (a : Acceptance) → a.words ≡ words_in code → a.reached ≡ entries_in status' (words_in code) → Clear o code grants (table_of o status' operands') → Judged o code grants status operands status' operands' (Ok a)
     judged_clear a w r clear =
         record {
           lacking = λ lacks. absurd (room lacks);
@@ -79,11 +84,10 @@ module _ {K : Type 0} (o : Operations K) (l : Lawful o) (joined : K → K → By
           refused = λ _ f e. (k, (p, (sym (let same : fault.Breach k p ≡ f = cc in same), low)));
         }
 
-    -- the answer that a scan of the grown table leads to
-    pub judged_scanned : (v : Verdict) (words reached : ℕ) → words ≡ words_in code → reached ≡ entries_in status' (words_in code) → Suffices (words_in code) status' operands' → Scanned o code grants status' operands' v → Judged o code grants status operands status' operands' (answer_to v words reached)
-    judged_scanned verdict.Short words reached w r room' s = absurd (s room')
-    judged_scanned verdict.Clear words reached w r room' s = judged_clear (record { words = words; reached = reached }) w r s.1
-    judged_scanned (verdict.Found k p) words reached w r room' s = judged_found k p s.1
+    -- what a scan of the grown table found
+    pub judged_fault : (f : ScanFault) → Suffices (words_in code) status' operands' → Scanned o code grants status' operands' (Err f) → Judged o code grants status operands status' operands' (Err (scan_passed f))
+    judged_fault scanned.Memory room' s = absurd (s room')
+    judged_fault (scanned.Breach k p) room' s = judged_found k p s.1
 
 -- the bytes of the parts of an image
 pub code_bytes : (file : List ℕ) (start n : ℕ) (x : Part) → IsCode file start n x → part_bytes x ≡ take n (drop start file)

@@ -15,8 +15,6 @@ use Rattle.flow.specs.Breaches.{Meets}
 use Rattle.calls.specs.Promise.{Promise}
 use Rattle.growth.specs.Memory.{SameAt, entries_in}
 use Rattle.growth.specs.Growth.{Lacks}
-use Rattle.scan.specs.declared.verdict.Verdict.{Verdict}
-use Rattle.scan.specs.declared.verdict.Verdict.TheVariants as verdict
 use Rattle.scan.specs.Verdicts.{Lowest}
 use Rattle.checker.specs.declared.fault.CheckFault.{CheckFault}
 use Rattle.checker.specs.declared.fault.CheckFault.TheVariants as fault
@@ -30,12 +28,6 @@ grants_of file = take (4 * count_of_grants file) (drop (start_of_grants file) fi
 
 abbrev pub Answer : Type 0
 Answer = Result Acceptance CheckFault
-
--- the answer that a scan of the table leads to
-abbrev pub answer_to : Verdict → ℕ → ℕ → Answer
-answer_to verdict.Short words reached = Err fault.Memory
-answer_to verdict.Clear words reached = Ok (record { words = words; reached = reached })
-answer_to (verdict.Found k p) words reached = Err (fault.Breach k p)
 
 -- the table in the memory keeps the rules and lies inside every other that does; status bytes of words without an entry are 0;
 -- operands without an entry, and what lies past the last word, are as they were

@@ -1,10 +1,11 @@
 // Why an image is not accepted.
 ghost use Rattle.std.specs.Prelude.{◌≡◌, Some};
 ghost use Rattle.checker.specs.Faults.{breach_number, reported, fault_text};
-ghost use Rattle.checker.specs.Passing.{passed};
+ghost use Rattle.checker.specs.Passing.{passed, scan_passed};
 
 use flow::Breach;
 use image::FileFault;
+use scan::ScanFault;
 use std::fmt;
 
 #[derive(Clone, Copy, PartialEq, Eq, Debug)]
@@ -61,6 +62,18 @@ impl From<FileFault> for CheckFault {
 
     fn from(fault: FileFault) -> CheckFault {
         CheckFault::File(fault)
+    }
+}
+
+// So does what a scan finds.
+impl From<ScanFault> for CheckFault {
+    ghost from_gives = { λ f r. r ≡ scan_passed f };
+
+    fn from(fault: ScanFault) -> CheckFault {
+        match fault {
+            ScanFault::Memory => CheckFault::Memory,
+            ScanFault::Breach { breach, address } => CheckFault::Breach { breach, address },
+        }
     }
 }
 

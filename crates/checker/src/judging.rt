@@ -1,25 +1,13 @@
 // The check.
-ghost use Rattle.std.specs.Prelude.{◌≡◌};
-ghost use Rattle.checker.specs.Judging.{answer_to, Judged, Checked};
+ghost use Rattle.checker.specs.Judging.{Judged, Checked};
 
 use crate::acceptance::Acceptance;
 use crate::fault::CheckFault;
 use growth::grow;
 use image::read;
 use operands::{LeastJoin, Operand, Spreading};
-use scan::{Verdict, scan};
+use scan::scan;
 use words::word_count;
-
-// The answer that a scan leads to.
-fn answered(verdict: Verdict, words: usize, reached: usize) -> Result<Acceptance, CheckFault>
-    ensures { result ≡ answer_to verdict words reached }
-{
-    match verdict {
-        Verdict::Clear => Ok(Acceptance { words, reached }),
-        Verdict::Found { breach, address } => Err(CheckFault::Breach { breach, address }),
-        Verdict::Short => Err(CheckFault::Memory),
-    }
-}
 
 // Judges code by its grants: grows the least table in the lent memory and looks for breaches.
 pub fn judge<K: LeastJoin>(
@@ -31,12 +19,10 @@ pub fn judge<K: LeastJoin>(
     ensures { Judged K.Operand.operations code.now grants.now status.old operands.old status.new operands.new result }
 {
     K::join_is_least();
-    let Some(reached) = grow(code, operands, status) else {
-        return Err(CheckFault::Memory);
-    };
     let words = word_count(code);
-    let verdict = scan(code, grants, operands, status);
-    answered(verdict, words, reached)
+    let reached = grow(code, operands, status).ok_or(CheckFault::Memory)?;
+    scan(code, grants, operands, status)?;
+    Ok(Acceptance { words, reached })
 }
 
 // Judges a file. Sixteen operands and one status byte for each word are lent; a table that is left there is the least one.

@@ -1,5 +1,5 @@
 -- What the masks tell of the grants, and the first breach of an instruction that runs. Assumes nothing.
-use Rattle.std.proofs.Common.{◌≡◌, ℕ, ◌<◌, Bool, List, Some, None, Decides, sym, ap, ◌∙◌, arith}
+use Rattle.std.proofs.Common.{◌≡◌, ℕ, ◌<◌, Bool, List, Some, None, Decides, arith}
 use lib.Bits.{bit_and}
 use Rattle.instructions.specs.declared.field.Side.{Side}
 use Rattle.instructions.specs.declared.instruction.Instruction.{Instruction}
@@ -11,21 +11,16 @@ use Rattle.flow.specs.declared.breach.Breach.{Breach}
 use Rattle.flow.specs.declared.breach.Breach.TheVariants.{NotPermitted, Outside, Chain, Unready, Withheld}
 use Rattle.flow.specs.States.{State}
 use Rattle.flow.specs.Breaches.{cover, Exceeds, UsesUnready, order}
-use Rattle.scan.specs.declared.masks.Masks.{Masks}
-use Rattle.scan.specs.Masks.{mask_in, Reads}
+use Rattle.image.specs.Grants.{mask_of}
 use Rattle.scan.specs.Signs.{Strays, RunShows}
 use Rattle.scan.specs.Verdicts.{First}
 
 module _ {K : Type 0} (o : Operations K) (l : Lawful o) (grants : List ℕ) (s : State) where
   -- x is the operand of the register that selects the port
-  pub exceeds_by : (m : Masks) (side : Side) (bits : ℕ) (x : K) (r : Bool) → Reads grants m → Same (o.has x) (s (number_of (selector side))) → Decides r ((k : ℕ) × (o.has x k × (bit_and bits (mask_in m side k) ≡ bits → ⊥))) → Decides r (Exceeds grants (Some (side, bits)) s)
-  exceeds_by m side bits x r reads same d = (
-    (λ t. let w = d.0 t in
-        let e = reads side w.0 (l.bytes x w.0 w.1.0) in
-        (w.0, (same.0 w.0 w.1.0, λ a. w.1.1 (ap (bit_and bits) e ∙ a)))),
-    (λ w. let h = same.1 w.0 w.1.0 in
-        let e = reads side w.0 (l.bytes x w.0 h) in
-        d.1 (w.0, (h, λ a. w.1.1 (ap (bit_and bits) (sym e) ∙ a)))),
+  pub exceeds_by : (side : Side) (bits : ℕ) (x : K) (r : Bool) → Same (o.has x) (s (number_of (selector side))) → Decides r ((k : ℕ) × (o.has x k × (bit_and bits (mask_of grants side k) ≡ bits → ⊥))) → Decides r (Exceeds grants (Some (side, bits)) s)
+  exceeds_by side bits x r same d = (
+    (λ t. let w = d.0 t in (w.0, (same.0 w.0 w.1.0, w.1.1))),
+    (λ w. d.1 (w.0, (same.1 w.0 w.1.0, w.1.1))),
   )
 
   module _ (n p : ℕ) (i : Instruction) (stays : Strays o n s p i → ⊥) (ready : UsesUnready i s → ⊥) where

@@ -2,13 +2,14 @@
 #![tactic(auto)]
 
 mod covers;
+mod fault;
 mod masks;
+mod program;
 mod reaching;
 mod running;
 mod scanning;
-mod verdict;
 mod writes;
 
 pub use covers::cover;
+pub use fault::ScanFault;
 pub use scanning::scan;
-pub use verdict::Verdict;

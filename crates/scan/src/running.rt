@@ -1,18 +1,18 @@
 // What an instruction shows as it runs.
-ghost use Rattle.std.specs.Prelude.{◌≡◌, ℕ, ◌≤◌, List, Some, Decides};
+ghost use Rattle.std.specs.Prelude.{◌≡◌, ℕ, ◌≤◌, Some, Decides};
+ghost use Rattle.words.specs.Code.{words_in};
 ghost use Rattle.flow.specs.Breaches.{UsesUnready};
 ghost use Rattle.flow.specs.Entries.{allows};
-ghost use Rattle.scan.specs.Masks.{Reads};
 ghost use Rattle.scan.specs.Signs.{Strays, RunShows};
 ghost use Rattle.scan.specs.Verdicts.{First};
 
 use crate::covers::cover;
-use crate::masks::Masks;
-use crate::writes::exceeds;
+use crate::program::Program;
 use effects::uses;
 use flow::{Breach, Entry, jump, onward};
 use instructions::{Instruction, Side};
 use operands::{Operand, Spreading};
+use words::word_count;
 
 // Whether the instruction uses a bank that may be unready.
 pub(crate) fn uses_unready<K: Operand>(instruction: Instruction, entry: Entry<K>) -> bool
@@ -21,39 +21,46 @@ pub(crate) fn uses_unready<K: Operand>(instruction: Instruction, entry: Entry<K>
     (entry.left && uses(instruction, Side::Left)) || (entry.right && uses(instruction, Side::Right))
 }
 
-fn lies_outside(n: usize, address: Option<u16>) -> bool
-    ensures { Decides result ((q : ℕ) × ((address ≡ Some q) × (n ≤ q))) }
-{
-    match address {
-        Some(q) => q as usize >= n,
-        None => false,
+impl Program<'_> {
+    // Whether an address is outside the image.
+    pub fn lacks(&self, address: u16) -> bool
+        ensures { Decides result (words_in self.now.code.now ≤ address) }
+    {
+        address as usize >= word_count(self.code)
     }
-}
 
-// Whether the instruction, run at `p`, may go on outside an image of n words.
-fn strays<K: Spreading>(n: usize, instruction: Instruction, entry: Entry<K>, p: u16) -> bool
-    ensures { Decides result (Strays K.Operand.operations n (allows K.Operand.operations entry) p instruction) }
-{
-    lies_outside(n, onward(instruction, entry, p)) || lies_outside(n, jump(instruction, entry, p))
-}
+    fn lacks_some(&self, address: Option<u16>) -> bool
+        ensures { Decides result ((q : ℕ) × ((address ≡ Some q) × (words_in self.now.code.now ≤ q))) }
+    {
+        let n = word_count(self.code);
+        address.is_some_and(|q| q as usize >= n)
+    }
 
-// The first breach that the instruction shows, run at `p`.
-pub(crate) fn run_breach<K: Spreading>(
-    n: usize,
-    masks: &Masks,
-    instruction: Instruction,
-    entry: Entry<K>,
-    p: u16,
-) -> Option<Breach>
-    ensures { (grants : List ℕ) → Reads grants masks.now → First (RunShows K.Operand.operations n grants (allows K.Operand.operations entry) p instruction) result }
-{
-    if strays(n, instruction, entry, p) {
-        Some(Breach::Outside)
-    } else if uses_unready(instruction, entry) {
-        Some(Breach::Unready)
-    } else if exceeds(masks, cover(instruction), entry) {
-        Some(Breach::Withheld)
-    } else {
-        None
+    // Whether the instruction, run at `p`, may go on outside the image.
+    fn strays<K: Spreading>(&self, instruction: Instruction, entry: Entry<K>, p: u16) -> bool
+        ensures { Decides result (Strays K.Operand.operations (words_in self.now.code.now) (allows K.Operand.operations entry) p instruction) }
+    {
+        self.lacks_some(onward(instruction, entry, p))
+            || self.lacks_some(jump(instruction, entry, p))
+    }
+
+    // The first breach that the instruction shows, run at `p`.
+    pub fn run_breach<K: Spreading>(
+        &self,
+        instruction: Instruction,
+        entry: Entry<K>,
+        p: u16,
+    ) -> Option<Breach>
+        ensures { First (RunShows K.Operand.operations (words_in self.now.code.now) self.now.masks.grants.now (allows K.Operand.operations entry) p instruction) result }
+    {
+        if self.strays(instruction, entry, p) {
+            Some(Breach::Outside)
+        } else if uses_unready(instruction, entry) {
+            Some(Breach::Unready)
+        } else if self.masks.exceeded(cover(instruction), entry) {
+            Some(Breach::Withheld)
+        } else {
+            None
+        }
     }
 }

@@ -1,15 +1,13 @@
 // The scan of a table in memory.
-ghost use Rattle.std.specs.Prelude.{ℕ, ◌<◌, ◌≤◌, List, Decides};
+ghost use Rattle.std.specs.Prelude.{◌<◌, ◌≤◌, Decides};
 ghost use Rattle.words.specs.Code.{words_in};
-ghost use Rattle.flow.specs.Breaches.{Occurs};
 ghost use Rattle.flow.specs.Entries.{Room};
-ghost use Rattle.flow.specs.Tables.{holds, table_of};
-ghost use Rattle.scan.specs.Masks.{Reads};
-ghost use Rattle.scan.specs.Verdicts.{First, Suffices, Scanned};
+ghost use Rattle.flow.specs.Tables.{table_of};
+ghost use Rattle.scan.specs.Verdicts.{First, EntryShows, Suffices, Scanned};
 
-use crate::masks::{Masks, read_masks};
-use crate::reaching::address_breach;
-use crate::verdict::Verdict;
+use crate::fault::ScanFault;
+use crate::masks::Masks;
+use crate::program::Program;
 use flow::{Breach, entry_at};
 use operands::{Operand, Spreading};
 use words::word_count;
@@ -22,38 +20,41 @@ fn suffices<K: Operand>(n: usize, operands: &[K], status: &[u8]) -> bool
     n <= status.len() && 16 * n <= operands.len()
 }
 
-// The first breach at `p`, from what the memory holds there.
-fn entry_breach<K: Spreading>(
-    code: &[u8],
-    masks: &Masks,
-    operands: &[K],
-    status: &[u8],
-    p: u16,
-) -> Option<Breach>
-    requires { (p < words_in code.now) × (Room p status.now operands.now) }
-    ensures { (grants : List ℕ) → Reads grants masks.now → First (Occurs K.Operand.operations code.now grants (holds K.Operand.operations (table_of K.Operand.operations status.now operands.now) p) p) result }
-{
-    match entry_at(operands, status, p) {
-        Some(held) => address_breach(code, masks, held, p),
-        None => None,
+impl Program<'_> {
+    // The first breach of the entry that the memory holds at `p`; none too where it holds no entry.
+    fn entry_breach<K: Spreading>(&self, operands: &[K], status: &[u8], p: u16) -> Option<Breach>
+        requires { (p < words_in self.now.code.now) × (Room p status.now operands.now) }
+        ensures { First (EntryShows K.Operand.operations self.now.code.now self.now.masks.grants.now (table_of K.Operand.operations status.now operands.now) p) result }
+    {
+        if status[p as usize] % 2 == 1 {
+            self.address_breach(entry_at(operands, status, p)?, p)
+        } else {
+            None
+        }
     }
 }
 
-// Tells the lowest address whose entry has a breach, and the first breach there.
-pub fn scan<K: Spreading>(code: &[u8], grants: &[u8], operands: &[K], status: &[u8]) -> Verdict
+// Passes a table in which no entry has a breach.
+pub fn scan<K: Spreading>(
+    code: &[u8],
+    grants: &[u8],
+    operands: &[K],
+    status: &[u8],
+) -> Result<(), ScanFault>
     ensures { Scanned K.Operand.operations code.now grants.now status.now operands.now result }
 {
     let n = word_count(code);
     if !suffices(n, operands, status) {
-        return Verdict::Short;
+        return Err(ScanFault::Memory);
     }
-    let masks = read_masks(grants);
-    for p in 0..n as u16 {
-        if status[p as usize] % 2 == 1 {
-            if let Some(breach) = entry_breach(code, &masks, operands, status, p) {
-                return Verdict::Found { breach, address: p };
-            }
+    let program = Program {
+        code,
+        masks: Masks::read(grants),
+    };
+    for address in 0..n as u16 {
+        if let Some(breach) = program.entry_breach(operands, status, address) {
+            return Err(ScanFault::Breach { breach, address });
         }
     }
-    Verdict::Clear
+    Ok(())
 }

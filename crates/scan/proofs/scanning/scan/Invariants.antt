@@ -3,8 +3,8 @@ use Rattle.flow.specs.Tables.{holds, table_of}
 use Rattle.flow.specs.Breaches.{ClearAt}
 use Rattle.scan.proofs.scanning.scan.Given as goal
 
-abbrev pub invariant-loop-p : goal.invariant-loop-p
-invariant-loop-p g l =
+abbrev pub invariant-loop-address : goal.invariant-loop-address
+invariant-loop-address g l =
     let o = g.K.Operand.operations in
     let t = table_of o l.status l.operands in
-    (q : ℕ) → q < l.p → t.entry q ≡ true → ClearAt o l.code l.grants (holds o t q) q
+    (q : ℕ) → q < l.address → t.entry q ≡ true → ClearAt o l.code l.grants (holds o t q) q

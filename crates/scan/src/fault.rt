@@ -1,12 +1,10 @@
-// What a scan tells.
+// Why a scan does not pass a table.
 use flow::Breach;
 
 #[derive(Clone, Copy, PartialEq, Eq, Debug)]
-pub enum Verdict {
+pub enum ScanFault {
     // the memory is too short for the table of the code
-    Short,
-    // no entry has a breach
-    Clear,
+    Memory,
     // the lowest address whose entry has a breach, and the first breach there
-    Found { breach: Breach, address: u16 },
+    Breach { breach: Breach, address: u16 },
 }
