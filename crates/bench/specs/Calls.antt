@@ -2,8 +2,7 @@
 --   snapshot_of b         the machine of a bench, and the checksum of each bank
 --   called_on code c st   what a call leaves: a drive, a cycle and a run change the state, asking for it does not
 --   outcome_of code c b   what a call answers
-use Rattle.std.specs.Prelude.{ℕ, List, Ok, Err, Result}
-use Rattle.engine.specs.declared.fault.EngineFault.{EngineFault}
+use Rattle.std.specs.Prelude.{ℕ, List, Ok}
 use Rattle.engine.specs.States as states
 use Rattle.engine.specs.Cycles.{cycle_of}
 use Rattle.engine.specs.Runs.{Ran, run_call}
@@ -30,15 +29,11 @@ called_on code (call.Cycle reset halt) st = (cycle_of code reset halt st).1
 called_on code (call.Run cycles) st = (run_call code cycles st).after
 called_on code call.State st = st
 
-abbrev pub cycled : Result (Unit {0}) EngineFault → Outcome
-cycled (Ok _) = outcome.Done
-cycled (Err f) = outcome.Refused f
-
 abbrev pub ran_to : Ran → Outcome
 ran_to r = outcome.Ran r.finished r.fault
 
 abbrev pub outcome_of : List ℕ → Call → Bench → Outcome
-outcome_of code (call.Drive s p v) b = outcome.Done
-outcome_of code (call.Cycle reset halt) b = cycled (cycle_of code reset halt (state_at b)).0
+outcome_of code (call.Drive s p v) b = outcome.Made (Ok tt)
+outcome_of code (call.Cycle reset halt) b = outcome.Made (cycle_of code reset halt (state_at b)).0
 outcome_of code (call.Run cycles) b = ran_to (run_call code cycles (state_at b))
 outcome_of code call.State b = outcome.State (snapshot_of b)

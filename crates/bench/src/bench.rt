@@ -76,12 +76,9 @@ impl Bench {
         match call {
             Call::Drive { side, port, value } => {
                 self.drive(side, port, value);
-                Outcome::Done
+                Outcome::Made(Ok(()))
             }
-            Call::Cycle { reset, halt } => match self.cycle(code, reset, halt) {
-                Ok(()) => Outcome::Done,
-                Err(fault) => Outcome::Refused(fault),
-            },
+            Call::Cycle { reset, halt } => Outcome::Made(self.cycle(code, reset, halt)),
             Call::Run { cycles } => {
                 let (finished, fault) = self.run(code, cycles);
                 Outcome::Ran { finished, fault }

@@ -1,5 +1,6 @@
 // What is asked of the bench.
 use instructions::Side;
+use std::fmt;
 
 #[derive(Clone, Copy)]
 pub enum Call {
@@ -11,4 +12,31 @@ pub enum Call {
     Run { cycles: usize },
     // what the bench holds
     State,
+}
+
+// The letter by which a call names a bank.
+fn letter(side: Side) -> char {
+    match side {
+        Side::Left => 'L',
+        Side::Right => 'R',
+    }
+}
+
+// The call as a script has it: `drive L 05 ff`.
+impl fmt::Display for Call {
+    fn fmt<W: fmt::Write>(&self, f: &mut fmt::Formatter<W>) -> fmt::Result {
+        match *self {
+            Call::Drive { side, port, value } => {
+                let bank = letter(side);
+                write!(f, "drive {bank} {port:02x} {value:02x}")
+            }
+            Call::Cycle { reset, halt } => {
+                let reset = u8::from(reset);
+                let halt = u8::from(halt);
+                write!(f, "cycle {reset} {halt}")
+            }
+            Call::Run { cycles } => write!(f, "run {cycles}"),
+            Call::State => f.write_str("state"),
+        }
+    }
 }

@@ -13,4 +13,4 @@ pub use call::Call;
 pub use checksum::bank_checksum;
 pub use hex::hex_byte;
 pub use outcome::{Outcome, Snapshot};
-pub use setup::Setup;
+pub use setup::{RegistersGiven, Setup};

@@ -1,5 +1,5 @@
 // What a bench is made with.
-ghost use Rattle.std.specs.Prelude.{◌≡◌, not, is_some};
+ghost use Rattle.std.specs.Prelude.{◌≡◌, is_some, is_err};
 ghost use Rattle.bench.specs.Benches.{state_at};
 ghost use Rattle.bench.specs.Setups.{unset, with_registers, with_port, bench_of};
 
@@ -9,6 +9,10 @@ use instructions::Side;
 
 // A port that no call of `set_port` names.
 const UNNAMED: Port = Port { byte: 0, mask: 255 };
+
+// Registers were given before.
+#[derive(Clone, Copy, PartialEq, Eq, Debug)]
+pub struct RegistersGiven;
 
 #[derive(Drop)]
 pub struct Setup {
@@ -28,16 +32,16 @@ impl Setup {
         }
     }
 
-    // Whether the registers are taken. Registers that were given before stay.
-    pub fn set_registers(&mut self, registers: [u8; 16]) -> bool
-        ensures answer { result ≡ not (is_some self.old.registers) }
+    // Registers that were given before stay, and others are refused.
+    pub fn set_registers(&mut self, registers: [u8; 16]) -> Result<(), RegistersGiven>
+        ensures answer { is_err result ≡ is_some self.old.registers }
         ensures state { self.new ≡ with_registers registers self.old }
     {
         if self.registers.is_some() {
-            return false;
+            return Err(RegistersGiven);
         }
         self.registers = Some(registers);
-        true
+        Ok(())
     }
 
     pub fn set_port(&mut self, side: Side, number: u8, port: Port)

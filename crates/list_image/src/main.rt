@@ -3,38 +3,12 @@
 #![tactic(auto)]
 
 use anyhow::anyhow;
-use image::{MOST_BYTES, read};
+use files::file_or_input;
+use image::read;
 use listing::Listing;
-use std::alloc::Global;
-use std::fs::File;
-use std::io::{BufWriter, Read, Write};
+use std::io::{BufWriter, Write};
 use std::process::ExitCode;
 use std::{env, io};
-
-#[derive(Clone, Copy)]
-enum Outcome {
-    Listed,
-    Refused,
-}
-
-// A file's bytes. Of a file that is too long only as many as show that.
-fn bytes_of<R: Read + Drop>(heap: Global, source: R) -> io::Result<Vec<u8>> {
-    let mut bytes = Vec::new(heap);
-    source.take(MOST_BYTES as u64 + 1).read_to_end(&mut bytes)?;
-    Ok(bytes)
-}
-
-fn opened(rt: &HostRuntime, path: &str) -> io::Result<Vec<u8>> {
-    bytes_of(rt.alloc(), File::open(rt, path)?)
-}
-
-// The bytes of a file, or a message that names it.
-fn file_at(rt: &HostRuntime, path: &str) -> anyhow::Result<Vec<u8>> {
-    match opened(rt, path) {
-        Ok(bytes) => Ok(bytes),
-        Err(error) => Err(anyhow!(format!(in rt.alloc(); "{path}: {error}")?)),
-    }
-}
 
 fn input(rt: &HostRuntime) -> anyhow::Result<Vec<u8>> {
     let mut args = env::args(rt)?;
@@ -43,34 +17,30 @@ fn input(rt: &HostRuntime) -> anyhow::Result<Vec<u8>> {
     if args.next().is_some() {
         return Err(anyhow!("give one file, or none to read standard input"));
     }
-    match path {
-        Some(path) => file_at(rt, path.as_str()),
-        None => Ok(bytes_of(rt.alloc(), rt.stdin())?),
-    }
+    file_or_input(rt, path.as_deref())
 }
 
-fn run(rt: &HostRuntime) -> anyhow::Result<Outcome> {
+fn run(rt: &HostRuntime) -> anyhow::Result<ExitCode> {
     let bytes = input(rt)?;
     let mut out = BufWriter::new(rt.alloc(), rt.stdout())?;
-    let outcome = match read(bytes.as_slice()) {
+    let status = match read(bytes.as_slice()) {
         Ok(image) => {
             let listing = Listing { image };
             writeln!(out, "{listing}")?;
-            Outcome::Listed
+            ExitCode::SUCCESS
         }
         Err(fault) => {
             writeln!(out, "{fault}")?;
-            Outcome::Refused
+            ExitCode::FAILURE
         }
     };
     out.flush()?;
-    Ok(outcome)
+    Ok(status)
 }
 
 fn main(rt: HostRuntime) -> io::Result<ExitCode> {
     match run(&rt) {
-        Ok(Outcome::Listed) => Ok(ExitCode::SUCCESS),
-        Ok(Outcome::Refused) => Ok(ExitCode::FAILURE),
+        Ok(status) => Ok(status),
         Err(error) => {
             eprintln!(rt; "list_image: {error}")?;
             Ok(ExitCode::FAILURE)

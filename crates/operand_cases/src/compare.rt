@@ -1,6 +1,7 @@
 // Comparing the answers of a kind.
 use crate::brute::{
-    Binary, Members, Unary, bit_by_bit, image_of_one, image_of_two, is_inside, is_same, union_of,
+    Members, bit_by_bit, carry, image_of_one, image_of_two, is_inside, kept, members_where,
+    rotated, sum, union_of,
 };
 use operands::{Operand, Spreading};
 use std::fmt;
@@ -21,54 +22,20 @@ impl Outcomes {
     }
 }
 
-// Numbers without a pattern, the same ones in every run.
-#[derive(Drop)]
-pub(crate) struct Numbers {
-    state: u64,
-}
-
-impl Numbers {
-    pub(crate) fn new() -> Numbers {
-        Numbers {
-            state: 0x9e37_79b9_7f4a_7c15,
-        }
-    }
-
-    pub(crate) fn next_byte(&mut self) -> u8 {
-        let mut x = self.state;
-        x ^= x << 13;
-        x ^= x >> 7;
-        x ^= x << 17;
-        self.state = x;
-        ((x >> 32) & 0xff) as u8
-    }
-}
-
 fn members<K: Operand>(x: K) -> Members {
-    let mut out = [false; 256];
-    for b in 0..256usize {
-        out[b] = x.contains(b as u8);
-    }
-    out
+    members_where(|b| x.contains(b))
 }
 
-#[derive(Clone, Copy)]
+#[derive(Clone, Copy, Default)]
 pub(crate) struct Comparison {
     answers: u64,
     differ: u64,
 }
 
 impl Comparison {
-    pub(crate) fn new() -> Comparison {
-        Comparison {
-            answers: 0,
-            differ: 0,
-        }
-    }
-
     fn note<K: Operand>(&mut self, answer: K, expected: Members) {
         self.answers = self.answers.saturating_add(1);
-        if !is_same(&members(answer), &expected) {
+        if members(answer) != expected {
             self.differ = self.differ.saturating_add(1);
         }
     }
@@ -76,33 +43,25 @@ impl Comparison {
     fn compare_one<K: Operand>(&mut self, x: K, outcomes: Outcomes) {
         let has = members(x);
         for count in 0..17u8 {
-            let rotated = outcomes.expected(image_of_one(Unary::Rotate(count), &has));
-            self.note(x.rotate_right(count), rotated);
-            let kept = outcomes.expected(image_of_one(Unary::Keep(count), &has));
-            self.note(x.keep_lowest(count), kept);
+            let rotated = image_of_one(|b| rotated(b, count), &has);
+            self.note(x.rotate_right(count), outcomes.expected(rotated));
+            let kept = image_of_one(|b| kept(b, count), &has);
+            self.note(x.keep_lowest(count), outcomes.expected(kept));
         }
     }
 
     fn compare_two<K: Operand>(&mut self, x: K, y: K, outcomes: Outcomes) {
         let left = members(x);
         let right = members(y);
-        let (sum, carry) = x.add(y);
-        self.note(
-            x.and(y),
-            outcomes.expected(image_of_two(Binary::And, &left, &right)),
-        );
-        self.note(
-            x.xor(y),
-            outcomes.expected(image_of_two(Binary::Xor, &left, &right)),
-        );
-        self.note(
-            sum,
-            outcomes.expected(image_of_two(Binary::Sum, &left, &right)),
-        );
-        self.note(
-            carry,
-            outcomes.expected(image_of_two(Binary::Carry, &left, &right)),
-        );
+        let (total, over) = x.add(y);
+        let both = image_of_two(|a, b| a & b, &left, &right);
+        self.note(x.and(y), outcomes.expected(both));
+        let either = image_of_two(|a, b| a ^ b, &left, &right);
+        self.note(x.xor(y), outcomes.expected(either));
+        let sums = image_of_two(sum, &left, &right);
+        self.note(total, outcomes.expected(sums));
+        let carries = image_of_two(carry, &left, &right);
+        self.note(over, outcomes.expected(carries));
     }
 
     // A join has both, and tells whether it has more than the first; its rank then rises.

@@ -4,17 +4,20 @@
 mod brute;
 mod compare;
 
-use crate::compare::{Comparison, Numbers, Outcomes};
+use crate::compare::{Comparison, Outcomes};
 use marks::Marks;
+use numbers::Numbers;
 use operands::{Byte, Operand, Spreading};
 use sets::Set;
 use std::io;
 
 const PAIRS: u32 = 2_000;
 
+const SEED: u64 = 305;
+
 fn compared_bytes() -> Comparison {
-    let mut numbers = Numbers::new();
-    let mut comparison = Comparison::new();
+    let mut numbers = Numbers::new(SEED);
+    let mut comparison = Comparison::default();
     for _ in 0..PAIRS {
         let x = Byte::constant(numbers.next_byte());
         let y = Byte::constant(numbers.next_byte());
@@ -37,8 +40,8 @@ fn some_operand<K: Spreading>(numbers: &mut Numbers) -> K {
 }
 
 fn compared<K: Spreading>(outcomes: Outcomes) -> Comparison {
-    let mut numbers = Numbers::new();
-    let mut comparison = Comparison::new();
+    let mut numbers = Numbers::new(SEED);
+    let mut comparison = Comparison::default();
     for _ in 0..PAIRS {
         let x: K = some_operand(&mut numbers);
         let y: K = some_operand(&mut numbers);

@@ -1,7 +1,4 @@
 // How a script is played: a bench is made from the lines before the first call, and then the calls are made on it.
-ghost use Rattle.std.specs.Prelude.{◌≡◌, is_some, is_err};
-ghost use Rattle.bench.specs.Setups.{with_registers};
-
 use crate::answer::Answer;
 use crate::fault::{LineFault, ScriptFault};
 use crate::line::Line;
@@ -11,25 +8,10 @@ use std::io::Write;
 
 // The answer for a line, or its fault with its number.
 fn numbered<'a, T>(index: usize, res: Result<T, LineFault<'a>>) -> Result<T, ScriptFault<'a>> {
-    match res {
-        Ok(value) => Ok(value),
-        Err(fault) => Err(ScriptFault::Line {
-            number: index.saturating_add(1),
-            fault,
-        }),
-    }
-}
-
-// Registers are given once: others are refused.
-fn set_registers<'a>(setup: &mut Setup, registers: [u8; 16]) -> Result<(), LineFault<'a>>
-    ensures test { is_err result ≡ is_some setup.old.registers }
-    ensures after { setup.new ≡ with_registers registers setup.old }
-{
-    if setup.set_registers(registers) {
-        Ok(())
-    } else {
-        Err(LineFault::RegistersAgain)
-    }
+    res.map_err(|fault| ScriptFault::Line {
+        number: index.saturating_add(1),
+        fault,
+    })
 }
 
 // What the lines before the first call say, and how many they are.
@@ -38,7 +20,8 @@ fn read_setup<'a>(script: &'a str) -> Result<(Setup, usize), ScriptFault<'a>> {
     for (index, text) in script.lines().enumerate() {
         match numbered(index, read_line(text))? {
             Some(Line::Regs(registers)) => {
-                numbered(index, set_registers(&mut setup, registers))?;
+                let taken = setup.set_registers(registers);
+                numbered(index, taken.map_err(|_| LineFault::RegistersAgain))?;
             }
             Some(Line::Port { side, number, port }) => setup.set_port(side, number, port),
             Some(Line::Call(_)) => return Ok((setup, index)),

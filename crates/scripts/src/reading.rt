@@ -7,17 +7,11 @@ use instructions::Side;
 use std::str::SplitWhitespace;
 
 fn next_word<'a>(words: &mut SplitWhitespace<'a>) -> Result<&'a str, LineFault<'a>> {
-    match words.next() {
-        Some(word) => Ok(word),
-        None => Err(LineFault::MissingWord),
-    }
+    words.next().ok_or(LineFault::MissingWord)
 }
 
 fn byte_of<'a>(word: &'a str) -> Result<u8, LineFault<'a>> {
-    match hex_byte(word) {
-        Some(byte) => Ok(byte),
-        None => Err(LineFault::NotByte { word }),
-    }
+    hex_byte(word).ok_or(LineFault::NotByte { word })
 }
 
 fn next_byte<'a>(words: &mut SplitWhitespace<'a>) -> Result<u8, LineFault<'a>> {
@@ -42,25 +36,26 @@ fn next_level<'a>(words: &mut SplitWhitespace<'a>) -> Result<bool, LineFault<'a>
 
 fn next_count<'a>(words: &mut SplitWhitespace<'a>) -> Result<usize, LineFault<'a>> {
     let word = next_word(words)?;
-    match word.parse::<usize>() {
-        Ok(count) => Ok(count),
-        Err(_) => Err(LineFault::NotCount { word }),
+    word.parse::<usize>()
+        .map_err(|_| LineFault::NotCount { word })
+}
+
+// A word that is left is a fault.
+fn no_more<'a>(words: &mut SplitWhitespace<'a>, fault: LineFault<'a>) -> Result<(), LineFault<'a>> {
+    match words.next() {
+        Some(_) => Err(fault),
+        None => Ok(()),
     }
 }
 
 // All the words that are left.
 fn registers<'a>(words: &mut SplitWhitespace<'a>) -> Result<[u8; 16], LineFault<'a>> {
     let mut registers = [0; 16];
-    for register in 0..16usize {
-        let Some(word) = words.next() else {
-            return Err(LineFault::RegisterCount);
-        };
-        registers[register] = byte_of(word)?;
+    for register in registers.iter_mut() {
+        *register = byte_of(words.next().ok_or(LineFault::RegisterCount)?)?;
     }
-    match words.next() {
-        Some(_) => Err(LineFault::RegisterCount),
-        None => Ok(registers),
-    }
+    no_more(words, LineFault::RegisterCount)?;
+    Ok(registers)
 }
 
 fn port<'a>(words: &mut SplitWhitespace<'a>) -> Result<Line, LineFault<'a>> {
@@ -108,8 +103,6 @@ pub fn read_line<'a>(text: &'a str) -> Result<Option<Line>, LineFault<'a>> {
         "state" => Line::Call(Call::State),
         word => return Err(LineFault::UnknownWord { word }),
     };
-    match words.next() {
-        Some(_) => Err(LineFault::ExtraWord),
-        None => Ok(Some(line)),
-    }
+    no_more(&mut words, LineFault::ExtraWord)?;
+    Ok(Some(line))
 }
