@@ -25,7 +25,7 @@ snapshot_of b =
 
 abbrev pub called_on : List ℕ → Call → states.State → states.State
 called_on code (call.Drive s p v) st = driven_on s p v st
-called_on code (call.Cycle reset halt) st = (cycle_of code reset halt st).1
+called_on code (call.Cycle lines) st = (cycle_of code lines.reset lines.halt st).1
 called_on code (call.Run cycles) st = (run_call code cycles st).after
 called_on code call.State st = st
 
@@ -34,6 +34,6 @@ ran_to r = outcome.Ran r.finished r.fault
 
 abbrev pub outcome_of : List ℕ → Call → Bench → Outcome
 outcome_of code (call.Drive s p v) b = outcome.Made (Ok tt)
-outcome_of code (call.Cycle reset halt) b = outcome.Made (cycle_of code reset halt (state_at b)).0
+outcome_of code (call.Cycle lines) b = outcome.Made (cycle_of code lines.reset lines.halt (state_at b)).0
 outcome_of code (call.Run cycles) b = ran_to (run_call code cycles (state_at b))
 outcome_of code call.State b = outcome.State (snapshot_of b)

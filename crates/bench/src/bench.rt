@@ -9,7 +9,7 @@ use crate::call::Call;
 use crate::checksum::bank_checksum;
 use crate::outcome::{Outcome, Snapshot};
 use banks::{Bank, Port, PortBank};
-use engine::{EngineFault, Machine};
+use engine::{EngineFault, Lines, Machine};
 use instructions::Side;
 
 #[derive(Drop)]
@@ -41,13 +41,13 @@ impl Bench {
         }
     }
 
-    // One cycle on the code, with the reset and halt lines as given.
-    pub fn cycle(&mut self, code: &[u8], reset: bool, halt: bool) -> Result<(), EngineFault>
-        ensures answer { result ≡ (cycle_of code.now reset halt (state_at self.old)).0 }
-        ensures state { state_at self.new ≡ (cycle_of code.now reset halt (state_at self.old)).1 }
+    // One cycle on the code, with the lines as given.
+    pub fn cycle(&mut self, code: &[u8], lines: Lines) -> Result<(), EngineFault>
+        ensures answer { result ≡ (cycle_of code.now lines.reset lines.halt (state_at self.old)).0 }
+        ensures state { state_at self.new ≡ (cycle_of code.now lines.reset lines.halt (state_at self.old)).1 }
     {
         self.machine
-            .cycle(code, &mut self.left, &mut self.right, reset, halt)
+            .cycle(code, &mut self.left, &mut self.right, lines)
     }
 
     // A run of so many cycles on the code: how many were finished, and the fault that ended it.
@@ -78,7 +78,7 @@ impl Bench {
                 self.drive(side, port, value);
                 Outcome::Made(Ok(()))
             }
-            Call::Cycle { reset, halt } => Outcome::Made(self.cycle(code, reset, halt)),
+            Call::Cycle(lines) => Outcome::Made(self.cycle(code, lines)),
             Call::Run { cycles } => {
                 let (finished, fault) = self.run(code, cycles);
                 Outcome::Ran { finished, fault }

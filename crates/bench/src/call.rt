@@ -1,4 +1,5 @@
 // What is asked of the bench.
+use engine::Lines;
 use instructions::Side;
 use std::fmt;
 
@@ -6,8 +7,8 @@ use std::fmt;
 pub enum Call {
     // a value driven on a port from the outside
     Drive { side: Side, port: u8, value: u8 },
-    // one cycle, with the reset and halt lines as given
-    Cycle { reset: bool, halt: bool },
+    // one cycle, with the lines as given
+    Cycle(Lines),
     // so many cycles with neither line active, up to the first fault
     Run { cycles: usize },
     // what the bench holds
@@ -30,9 +31,9 @@ impl fmt::Display for Call {
                 let bank = letter(side);
                 write!(f, "drive {bank} {port:02x} {value:02x}")
             }
-            Call::Cycle { reset, halt } => {
-                let reset = u8::from(reset);
-                let halt = u8::from(halt);
+            Call::Cycle(lines) => {
+                let reset = u8::from(lines.reset);
+                let halt = u8::from(lines.halt);
                 write!(f, "cycle {reset} {halt}")
             }
             Call::Run { cycles } => write!(f, "run {cycles}"),

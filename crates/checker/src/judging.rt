@@ -18,7 +18,6 @@ pub fn judge<K: LeastJoin>(
 ) -> Result<Acceptance, CheckFault>
     ensures { Judged K.Operand.operations code.now grants.now status.old operands.old status.new operands.new result }
 {
-    K::join_is_least();
     let words = word_count(code);
     let reached = grow(code, operands, status).ok_or(CheckFault::Memory)?;
     scan(code, grants, operands, status)?;

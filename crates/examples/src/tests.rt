@@ -1,7 +1,8 @@
 // Words run by the engine.
 use super::*;
 use banks::{Bank, Port, PortBank, Storage};
-use engine::{EngineFault, Machine};
+use engine::{EngineFault, Lines, Machine};
+use faults::Fault;
 
 // A machine beside two banks of storage, of which the left one holds the same byte everywhere.
 #[derive(Drop)]
@@ -28,8 +29,7 @@ impl Bench {
             &word.to_be_bytes(),
             &mut self.left,
             &mut self.right,
-            false,
-            false,
+            Lines::default(),
         )
     }
 }
@@ -70,7 +70,7 @@ fn reset_keeps_registers_and_selects(rt: HostRuntime) {
     bench.machine.pc = 300;
     let answer = bench
         .machine
-        .cycle(&[], &mut bench.left, &mut bench.right, true, true);
+        .cycle(&[], &mut bench.left, &mut bench.right, Lines { reset: true, halt: true });
     assert_eq!(rt; answer, Ok(()));
     assert_eq!(rt; bench.machine.pc, 0);
     let registers = bench.machine.registers;
@@ -85,7 +85,7 @@ fn halt_runs_no_word(rt: HostRuntime) {
     let mut bench = Bench::holding(0, 0, 0);
     let answer = bench
         .machine
-        .cycle(&[], &mut bench.left, &mut bench.right, false, true);
+        .cycle(&[], &mut bench.left, &mut bench.right, Lines { reset: false, halt: true });
     assert_eq!(rt; answer, Ok(()));
 }
 

@@ -44,7 +44,7 @@ fn pass<K: Spreading>(
     low: usize,
 ) -> usize
     requires { Room n status.old operands.old }
-    ensures { Went K.Operand.operations K.Spreading.joined K.Spreading.rank K.Spreading.top n p low instruction entry status.old operands.old result status.new operands.new }
+    ensures { Went K.Operand.operations K.Spreading.joined K.Spreading.rank K.Spreading.MAX_RANK n p low instruction entry status.old operands.old result status.new operands.new }
 {
     let new = after_instruction(instruction, entry);
     let low = send_on(n, operands, status, onward(instruction, entry, p), new, low);
@@ -66,7 +66,7 @@ pub(crate) fn step<K: Spreading>(
     requires growing { Growing K.Operand.operations K.Spreading.joined code.now status.old operands.old }
     ensures growing { Growing K.Operand.operations K.Spreading.joined code.now status.new operands.new }
     ensures kept { Kept K.Operand.operations (words_in code.now) status.old operands.old status.new operands.new }
-    ensures falls { load K.Operand.operations K.Spreading.rank K.Spreading.top (words_in code.now) status.new operands.new < load K.Operand.operations K.Spreading.rank K.Spreading.top (words_in code.now) status.old operands.old }
+    ensures falls { load K.Operand.operations K.Spreading.rank K.Spreading.MAX_RANK (words_in code.now) status.new operands.new < load K.Operand.operations K.Spreading.rank K.Spreading.MAX_RANK (words_in code.now) status.old operands.old }
     ensures quiet { Quiet status.new result }
 {
     let Some(saved) = entry_at(operands, status, p) else {

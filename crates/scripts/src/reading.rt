@@ -3,6 +3,7 @@ use crate::fault::LineFault;
 use crate::line::Line;
 use banks::Port;
 use bench::{Call, hex_byte};
+use engine::Lines;
 use instructions::Side;
 use std::str::SplitWhitespace;
 
@@ -80,7 +81,7 @@ fn drive<'a>(words: &mut SplitWhitespace<'a>) -> Result<Call, LineFault<'a>> {
 fn cycle<'a>(words: &mut SplitWhitespace<'a>) -> Result<Call, LineFault<'a>> {
     let reset = next_level(words)?;
     let halt = next_level(words)?;
-    Ok(Call::Cycle { reset, halt })
+    Ok(Call::Cycle(Lines { reset, halt }))
 }
 
 fn run<'a>(words: &mut SplitWhitespace<'a>) -> Result<Call, LineFault<'a>> {

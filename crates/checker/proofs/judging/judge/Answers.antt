@@ -12,7 +12,7 @@ returns-in_err-scan g c =
     let grown = c.grow.ensures.grown room in
     let suffices = room_suffices (words_in code) c.args.status.now c.grow.new.status c.args.operands.now c.grow.new.operands c.grow.auto.status c.grow.auto.operands room in
     let told = err_from_is_err_and c.from_residual-in_err-scan.result c.from_residual-in_err-scan.ensures.1 in
-    rw (told.1, told.2) (judged_fault g.K.Operand.operations g.K.Operand.lawful g.K.Spreading.joined c.join_is_least.ensures code c.args.grants.now c.args.status.now c.args.operands.now c.grow.new.status c.grow.new.operands room grown.1 _ suffices c.in_err-scan.ensures)
+    rw (told.1, told.2) (judged_fault g.K.Operand.operations g.K.Operand.lawful g.K.Spreading.joined g.met.K.LeastJoin.least code c.args.grants.now c.args.status.now c.args.operands.now c.grow.new.status c.grow.new.operands room grown.1 _ suffices c.in_err-scan.ensures)
 
 pub returns : goal.returns
 returns g c =
@@ -23,4 +23,4 @@ returns g c =
     let counted : c.in_ok-reached.reached ≡ entries_in c.grow.new.status (words_in code) =
     let same = sym some ∙ grown.0 in
     cc in
-    judged_clear g.K.Operand.operations g.K.Operand.lawful g.K.Spreading.joined c.join_is_least.ensures code c.args.grants.now c.args.status.now c.args.operands.now c.grow.new.status c.grow.new.operands room grown.1 _ c.word_count-words.ensures counted c.in_ok-scan.ensures.1
+    judged_clear g.K.Operand.operations g.K.Operand.lawful g.K.Spreading.joined g.met.K.LeastJoin.least code c.args.grants.now c.args.status.now c.args.operands.now c.grow.new.status c.grow.new.operands room grown.1 _ c.word_count-words.ensures counted c.in_ok-scan.ensures.1

@@ -12,7 +12,7 @@ loop-r-preserved g c =
     let q = c.args.q in
     let lt : 16 * q + c.loop-r.r < length c.loop-r.operands = omega arith in
     let few : c.loop-r.r < length new.operands = omega arith in
-    partly_more o g.K.Spreading.joined g.K.Spreading.rank g.K.Spreading.top _ _ q new.operands c.args.operands.now c.loop-r.r c.loop-r.risen c.loop-r.operands c.blend-risen.new.operand c.blend-risen.result lt c.loop-r.invariant
+    partly_more o g.K.Spreading.joined g.K.Spreading.rank g.K.Spreading.MAX_RANK _ _ q new.operands c.args.operands.now c.loop-r.r c.loop-r.risen c.loop-r.operands c.blend-risen.new.operand c.blend-risen.result lt c.loop-r.invariant
     (get_or c.loop-r.operands (16 * q + c.loop-r.r) c.index-operands-q.result) (get_or new.operands c.loop-r.r c.index-new-r.result)
     (sym c.index-operands-q.is ∙ get_or_read c.loop-r.operands _ c.index-operands-q.result lt c.index-operands-q.is o.some)
     (sym c.index-new-r.is ∙ get_or_read new.operands c.loop-r.r c.index-new-r.result few c.index-new-r.is o.some)
@@ -22,14 +22,14 @@ pub returns-then-risen : goal.returns-then-risen
 returns-then-risen g c =
     let all : c.loop-r.r ≡ 16 = omega arith in
     let lt : c.args.q < length c.args.status.now = omega arith in
-    partly_flowed g.K.Operand.operations g.K.Spreading.joined g.K.Spreading.rank g.K.Spreading.top g.met.K.Spreading.bounded
+    partly_flowed g.K.Operand.operations g.K.Spreading.joined g.K.Spreading.rank g.K.Spreading.MAX_RANK g.met.K.Spreading.bounded
     c.args.q c.args.new c.args.operands.now c.args.status.now c.loop-r.operands
     _ _ c.loop-r.r c.loop-r.risen c.due_status.result (cc) (cc) all c.if-risen.true (cc) c.loop-r.invariant lt
 
 pub returns-else-risen : goal.returns-else-risen
 returns-else-risen g c =
     let all : c.loop-r.r ≡ 16 = omega arith in
-    partly_still g.K.Operand.operations g.K.Spreading.joined g.K.Spreading.rank g.K.Spreading.top g.met.K.Spreading.bounded
+    partly_still g.K.Operand.operations g.K.Spreading.joined g.K.Spreading.rank g.K.Spreading.MAX_RANK g.met.K.Spreading.bounded
     c.args.q c.args.new c.args.operands.now c.args.status.now c.loop-r.operands
     _ _ c.loop-r.r c.loop-r.risen (cc) (cc) all c.if-risen.false c.loop-r.invariant
 

@@ -42,7 +42,7 @@ loop-k-init g c =
     let first = c.first_target-first.result in
     let due = tidy_due (get_or status p 0) (c.requires.growing.tidy p c.requires.inside) c.requires.due in
     let ls : p < length status = omega arith in
-    stepping_start o g.K.Operand.lawful g.K.Spreading.joined g.K.Spreading.rank g.K.Spreading.top code p saved (first + 0) status operands c.requires.inside ls due
+    stepping_start o g.K.Operand.lawful g.K.Spreading.joined g.K.Spreading.rank g.K.Spreading.MAX_RANK code p saved (first + 0) status operands c.requires.inside ls due
     (entered_alike o status operands p saved (c.entry_at.ensures.entry saved c.in-Some.is).1) c.requires.quiet c.requires.growing
     (λ k i runs.
     let within = runs_within o code p saved c.instruction_at-here.result first c.target_count-k-end.result
@@ -55,7 +55,7 @@ loop-k-preserved g c =
     let l = g.K.Operand.lawful in
     let joined = g.K.Spreading.joined in
     let rank = g.K.Spreading.rank in
-    let top = g.K.Spreading.top in
+    let top = g.K.Spreading.MAX_RANK in
     let code = c.args.code.now in
     let p = c.args.p in
     let s1 = taken_up c.args.status.now p in
@@ -87,7 +87,7 @@ returns g c =
     let l = g.K.Operand.lawful in
     let joined = g.K.Spreading.joined in
     let rank = g.K.Spreading.rank in
-    let top = g.K.Spreading.top in
+    let top = g.K.Spreading.MAX_RANK in
     let code = c.args.code.now in
     let n = words_in code in
     let p = c.args.p in

@@ -4,4 +4,4 @@ use Rattle.growth.proofs.step.step.Given as goal
 
 abbrev pub invariant-loop-k : goal.invariant-loop-k
 invariant-loop-k g l =
-    Stepping g.K.Operand.operations g.K.Operand.lawful g.K.Spreading.joined g.K.Spreading.rank g.K.Spreading.top l.code l.p l.saved l.initial.status l.initial.operands (l.first + l.k) l.low l.status l.operands
+    Stepping g.K.Operand.operations g.K.Operand.lawful g.K.Spreading.joined g.K.Spreading.rank g.K.Spreading.MAX_RANK l.code l.p l.saved l.initial.status l.initial.operands (l.first + l.k) l.low l.status l.operands

@@ -19,7 +19,7 @@ pub loop-p-init : goal.loop-p-init
 loop-p-init g c =
     let o = g.K.Operand.operations in
     let code = c.args.code.now in (
-      growing_start o g.K.Spreading.joined code g.K.Spreading.rank g.K.Spreading.top c.start_entry.result
+      growing_start o g.K.Spreading.joined code g.K.Spreading.rank g.K.Spreading.MAX_RANK c.start_entry.result
           c.clear.new.status c.args.operands.now c.send.new.status c.send.new.operands c.requires.full
           (λ k h. c.clear.ensures.zero k (omega (arith, c.word_count-n.ensures))) c.start_entry.ensures c.send.ensures,
       kept_same o (words_in code) c.send.new.status c.send.new.operands,
@@ -45,6 +45,6 @@ returns g c =
     (λ k h. c.in_default.ensures k (omega arith))
     (λ k h. c.clear.ensures.rest k (omega arith))
     (kept_then o n c.clear.new.status c.args.operands.now c.send.new.status c.send.new.operands c.loop-p.status c.loop-p.operands
-    (eased_flow o g.K.Spreading.rank g.K.Spreading.top n g.K.Spreading.joined 0 c.start_entry.result c.clear.new.status c.args.operands.now c.send.new.status c.send.new.operands c.requires.full c.send.ensures).kept
+    (eased_flow o g.K.Spreading.rank g.K.Spreading.MAX_RANK n g.K.Spreading.joined 0 c.start_entry.result c.clear.new.status c.args.operands.now c.send.new.status c.send.new.operands c.requires.full c.send.ensures).kept
     c.loop-p.invariant.1)
     c.loop-p.invariant.0

@@ -11,4 +11,4 @@ invariant-loop-p g l =
     × Quiet l.status l.low
 
 abbrev pub decreases-loop-p : goal.decreases-loop-p
-decreases-loop-p g l = load g.K.Operand.operations g.K.Spreading.rank g.K.Spreading.top (words_in l.code) l.status l.operands
+decreases-loop-p g l = load g.K.Operand.operations g.K.Spreading.rank g.K.Spreading.MAX_RANK (words_in l.code) l.status l.operands
