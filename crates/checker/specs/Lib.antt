@@ -1,3 +1,4 @@
+pub mod Acceptances
 pub mod Faults
 pub mod Passing
 pub mod Judging

@@ -3,6 +3,7 @@ ghost use Rattle.std.specs.Prelude.{◌≡◌, Some};
 ghost use Rattle.checker.specs.Faults.{breach_number, reported, fault_text};
 ghost use Rattle.checker.specs.Passing.{passed, scan_passed};
 
+use faults::Fault;
 use flow::Breach;
 use image::FileFault;
 use scan::ScanFault;
@@ -30,29 +31,18 @@ fn breach_number(breach: Breach) -> u8
     }
 }
 
-impl CheckFault {
-    // How the fault is reported: its number and its place.
-    fn report(self) -> (u8, usize)
-        ensures { result ≡ reported self }
-    {
+impl Fault for CheckFault {
+    // a byte of the file, or the address of a word
+    type Place = usize;
+
+    ghost reported = { reported };
+
+    fn report(self) -> (u8, usize) {
         match self {
-            CheckFault::File(fault) => (fault.number(), fault.place()),
+            CheckFault::File(fault) => fault.report(),
             CheckFault::Memory => (10, 0),
             CheckFault::Breach { breach, address } => (breach_number(breach), address as usize),
         }
-    }
-
-    pub fn number(self) -> u8
-        ensures { result ≡ (reported self).0 }
-    {
-        self.report().0
-    }
-
-    // The byte of the file, or the address of the word, at which the fault is reported.
-    pub fn place(self) -> usize
-        ensures { result ≡ (reported self).1 }
-    {
-        self.report().1
     }
 }
 
