@@ -27,7 +27,9 @@ fn field_cover(origin: Option<Side>, destination: Destination) -> Option<(Side, 
 fn port_cover(whole: Option<Side>, destination: Destination) -> Option<(Side, u8)>
     ensures { result ≡ port_cover whole destination }
 {
-    whole.map(|side| (side, 255)).or(field_cover(None, destination))
+    whole
+        .map(|side| (side, 255))
+        .or(field_cover(None, destination))
 }
 
 // The bank that an instruction writes, and the bits that it may set there.
