@@ -6,16 +6,14 @@ use checker::{Acceptance, CheckFault, check};
 use marks::Marks;
 use operands::{LeastJoin, Operand, Spreading};
 use sets::Set;
+use std::alloc::{AllocError, Global};
 use std::io::{BufRead, BufReader, BufWriter, Write};
 use std::{fs, io};
+use words::MOST_WORDS;
 
 fn write_answer<W: Write>(out: &mut W, answer: Result<Acceptance, CheckFault>) -> io::Result<()> {
     match answer {
-        Ok(accepted) => write!(
-            out,
-            "\taccept words {} reached {}",
-            accepted.words, accepted.reached
-        ),
+        Ok(acceptance) => write!(out, "\t{acceptance}"),
         Err(fault) => write!(out, "\t{fault}"),
     }
 }
@@ -27,39 +25,43 @@ struct Memory<K: Operand + Drop> {
     status: Vec<u8>,
 }
 
-// The answer with as much of the memory as so many words need.
-fn judged<K: LeastJoin + Drop>(
-    memory: &mut Memory<K>,
-    file: &[u8],
-    words: usize,
-) -> Result<Acceptance, CheckFault> {
-    let few = words.min(8_192);
-    let operands = memory.operands.as_mut_slice();
-    let status = memory.status.as_mut_slice();
-    if operands.len() < 16 * few || status.len() < few {
-        return Err(CheckFault::Memory);
+impl<K: LeastJoin + Clone + Drop> Memory<K> {
+    fn new(heap: Global) -> Result<Memory<K>, AllocError> {
+        Ok(Memory {
+            operands: vec![in heap; K::all(); 16 * MOST_WORDS]?,
+            status: vec![in heap; 0u8; MOST_WORDS]?,
+        })
     }
-    check(file, &mut operands[0..16 * few], &mut status[0..few])
+
+    // The answer with as much of the memory as so many words need.
+    fn judged(&mut self, file: &[u8], words: usize) -> Result<Acceptance, CheckFault> {
+        let few = words.min(MOST_WORDS);
+        let operands = self
+            .operands
+            .as_mut_slice()
+            .get_mut(..16 * few)
+            .ok_or(CheckFault::Memory)?;
+        let status = self
+            .status
+            .as_mut_slice()
+            .get_mut(..few)
+            .ok_or(CheckFault::Memory)?;
+        check(file, operands, status)
+    }
 }
 
 fn run(rt: &HostRuntime) -> anyhow::Result<()> {
     let heap = rt.alloc();
-    let mut marks: Memory<Marks> = Memory {
-        operands: vec![in heap; Marks::all(); 131_072]?,
-        status: vec![in heap; 0u8; 8_192]?,
-    };
-    let mut sets: Memory<Set> = Memory {
-        operands: vec![in heap; Set::all(); 131_072]?,
-        status: vec![in heap; 0u8; 8_192]?,
-    };
+    let mut marks = Memory::<Marks>::new(heap)?;
+    let mut sets = Memory::<Set>::new(heap)?;
     let mut out = BufWriter::new(heap, rt.stdout())?;
     for line in BufReader::new(heap, rt.stdin())?.lines(heap) {
         let name = line?;
         let file = fs::read(rt, name.as_str())?;
         write!(out, "{name}")?;
-        write_answer(&mut out, judged(&mut marks, file.as_slice(), 512))?;
-        write_answer(&mut out, judged(&mut marks, file.as_slice(), 8_192))?;
-        write_answer(&mut out, judged(&mut sets, file.as_slice(), 8_192))?;
+        write_answer(&mut out, marks.judged(file.as_slice(), 512))?;
+        write_answer(&mut out, marks.judged(file.as_slice(), MOST_WORDS))?;
+        write_answer(&mut out, sets.judged(file.as_slice(), MOST_WORDS))?;
         writeln!(out)?;
     }
     out.flush()?;

@@ -9,9 +9,8 @@ use instructions::{Destination, Field, Instruction, Side};
 fn cover_from(origin: Option<Side>, field: Field) -> u8
     ensures { result ≡ cover_from origin field }
 {
-    match (origin, field.side) {
-        (Some(Side::Left), Side::Right) => 255,
-        (Some(Side::Right), Side::Left) => 255,
+    match origin {
+        Some(side) if side != field.side => 255,
         _ => field_mask(field),
     }
 }
@@ -28,10 +27,9 @@ fn field_cover(origin: Option<Side>, destination: Destination) -> Option<(Side, 
 fn port_cover(whole: Option<Side>, destination: Destination) -> Option<(Side, u8)>
     ensures { result ≡ port_cover whole destination }
 {
-    match whole {
-        None => field_cover(None, destination),
-        Some(side) => Some((side, 255)),
-    }
+    whole
+        .map(|side| (side, 255))
+        .or(field_cover(None, destination))
 }
 
 // The bank that an instruction writes, and the bits that it may set there.

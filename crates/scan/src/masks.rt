@@ -34,12 +34,13 @@ impl<'a> Masks<'a> {
         }
     }
 
-    pub fn granted(&self, side: Side, port: u8) -> u8
+    pub fn granted(&self, side: Side, port: usize) -> u8
+        requires { port < 256 }
         ensures { result ≡ mask_of self.now.grants.now side port }
     {
         match side {
-            Side::Left => self.left[port as usize],
-            Side::Right => self.right[port as usize],
+            Side::Left => self.left[port],
+            Side::Right => self.right[port],
         }
     }
 }

@@ -33,11 +33,7 @@ fn earlier(x: Option<Breach>, y: Option<Breach>) -> Option<Breach>
 fn here_breach<K: Operand>(here: Option<Instruction>, entry: Entry<K>) -> Option<Breach>
     ensures { First (HereShows here (allows K.Operand.operations entry)) result }
 {
-    if uses_unready(here?, entry) {
-        Some(Breach::Unready)
-    } else {
-        None
-    }
+    uses_unready(here?, entry).then_some(Breach::Unready)
 }
 
 impl Program<'_> {

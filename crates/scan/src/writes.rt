@@ -15,9 +15,12 @@ impl Masks<'_> {
     fn withhold<K: Operand>(&self, side: Side, bits: u8, selecting: K) -> bool
         ensures { Decides result ((k : ℕ) × (K.Operand.operations.has selecting k × (bit_and bits (mask_of self.now.grants.now side k) ≢ bits))) }
     {
-        for port in 0..=255u8 {
-            if selecting.contains(port) && bits & self.granted(side, port) != bits {
-                return true;
+        // over 0..=255u8 the check of the largest image takes a twentieth longer
+        for port in 0..256usize {
+            if selecting.contains(port as u8) {
+                if bits & self.granted(side, port) != bits {
+                    return true;
+                }
             }
         }
         false
