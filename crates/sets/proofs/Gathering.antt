@@ -1,12 +1,11 @@
 -- A loop that gathers, from each member of a set, a part of the answer. Assumes nothing.
 --   Gathered xs Part rest n   n has only parts of the members of xs, and every part of those that are not in rest
-use Rattle.std.proofs.Common.{◌≡◌, ℕ, ◌+◌, ◌-◌, ◌^◌, ◌<◌, ◌⊎◌, sym, refl, ap, ◌∙◌, subst, inl, inr, ⊎_elim}
+use Rattle.std.proofs.Common.{◌≡◌, ℕ, ◌+◌, ◌-◌, ◌^◌, ◌<◌, ◌⊎◌, sym, refl, subst, inl, inr, ⊎_elim}
 use lib.Bits.{bit_or}
 use Rattle.operands.specs.Bytes.{Bytes, Same, Every}
-use Rattle.bits.specs.Bits.{bit}
 use Rattle.sets.specs.Numbers.{In}
 use Rattle.sets.proofs.Highest.{in_top}
-use Rattle.sets.proofs.Unions.{same_from_number, in_zero, in_or, in_or_left, in_or_right, in_all}
+use Rattle.sets.proofs.Unions.{same_from_number, in_or, in_or_left, in_or_right, in_all}
 
 abbrev pub From : ℕ → (ℕ → Bytes) → Bytes
 From xs Part k = (a : ℕ) × (In xs a × Part a k)
@@ -16,11 +15,6 @@ Gathered xs Part rest n =
     ((k : ℕ) → In n k → From xs Part k) × ((a k : ℕ) → In xs a → Part a k → In n k ⊎ In rest a) × ((a : ℕ) → In rest a → In xs a)
 
 module _ (xs : ℕ) (Part : ℕ → Bytes) where
-  pub gathered_none : (rest n : ℕ) → rest ≡ xs → n ≡ 0 → Gathered xs Part rest n
-  gathered_none rest n r e =
-      let Before : ℕ → Type 0 = λ z. Gathered xs Part z n in
-      subst Before (sym r) ((λ k h. absurd (in_zero k (ap (λ b. bit b k) (sym e) ∙ h))), (λ a k h p. inr h), (λ a h. h))
-
   more : (n a others m : ℕ) → others < 2 ^ a → Gathered xs Part (2 ^ a + others) n → Same (In m) (Part a) → Gathered xs Part others (bit_or n m)
   more n a others m small g s =
       let top = in_top a others small in (
@@ -41,10 +35,6 @@ module _ (xs : ℕ) (Part : ℕ → Bytes) where
   gathered_more rest n a others m next e small f g s =
       let Before : ℕ → Type 0 = λ z. Gathered xs Part z n in
       subst (Gathered xs Part others) (sym f) (more n a others m small (subst Before e g) s)
-
-  pub gathered_all : (rest n : ℕ) → rest ≡ 0 → Gathered xs Part rest n → Same (In n) (From xs Part)
-  gathered_all rest n e g =
-      (g.0, λ k (a, (h, p)). ⊎_elim (λ i. i) (λ z. absurd (in_zero a (ap (λ r. bit r a) (sym e) ∙ z))) (g.1 a k h p))
 
   -- all bytes are there, and no part has another
   pub gathered_full : (rest n : ℕ) → n ≡ 2 ^ 256 - 1 → ((a k : ℕ) → In xs a → Part a k → k < 256) → Gathered xs Part rest n → Same (In n) (From xs Part)

@@ -1,16 +1,12 @@
-use Rattle.std.proofs.Common.{rules, ◌≡◌, ℕ, ◌-◌, ◌%◌, ◌^◌, ◌<◌, Bool, eqb, sym, refl, subst, arith}
+use Rattle.std.proofs.Common.{◌≡◌, ℕ, ◌-◌, ◌%◌, ◌^◌, ◌<◌, Bool, eqb, sym, refl, subst, arith}
 use Rattle.std.proofs.lemmas.Bool.Decides.{Decides-eqb}
 use Rattle.operands.proofs.Rotations.{every, every_at}
 use Rattle.operands.specs.Bytes.{Bytes, Same, Only, Every, one, rotated}
 use Rattle.operands.specs.Bytes.One.{rotate}
 use Rattle.sets.specs.Numbers.{number, In}
-use Rattle.sets.proofs.Gathering.{gathered_none, gathered_more, gathered_all}
+use Rattle.sets.proofs.Gathering.{gathered_more}
 use Rattle.sets.proofs.Unions.{same_from_number, in_pow, in_all}
 use Rattle.sets.proofs.images.rotated_members.Goals as goal
-
-pub loop-b-init : goal.loop-b-init
-loop-b-init c =
-    gathered_none (number c.args.xs) (λ a. Only (one (rotate c.args.by) a)) (number c.into_iter-b-iterator.result.rest) (number c.default-out.result) (search rules) (search rules)
 
 pub loop-b-preserved : goal.loop-b-preserved
 loop-b-preserved c =
@@ -22,11 +18,6 @@ loop-b-preserved c =
     let highest = c.in-Some.ensures.steps in
     gathered_more (number c.args.xs) Part (number c.loop-b.b-iterator.rest) (number c.loop-b.out) c.in-Some.b (number c.next.new.self.rest) m
     (number c.union-out.result) highest.0 highest.1 c.union-out.ensures c.loop-b.invariant part
-
-pub returns : goal.returns
-returns c =
-    gathered_all (number c.args.xs) (λ a. Only (one (rotate c.args.by) a)) (number c.loop-b.b-iterator.rest) (number c.loop-b.out)
-    c.in-None.ensures.steps c.loop-b.invariant
 
 abbrev turns : ℕ → ℕ → Bool
 turns n k = eqb (rotated n (rotated ((8 - n) % 8) k)) k

@@ -2,9 +2,6 @@ use Rattle.std.proofs.Common.{◌≡◌, ◌+◌, ◌-◌, arith}
 use Rattle.std.proofs.lemmas.Nat.{one_shl, pow-add}
 use Rattle.sets.proofs.bitset.Bits.only.Goals as goal
 
-pub returns-then-b-lt128 : goal.returns-then-b-lt128
-returns-then-b-lt128 c = omega (arith, one_shl c.args.b 128 (omega arith))
-
 pub returns-else-b-lt128 : goal.returns-else-b-lt128
 returns-else-b-lt128 c =
     let e : (c.args.b - 128) + 128 ≡ c.args.b = omega arith in
