@@ -9,31 +9,36 @@ ghost use Rattle.flow.specs.Entries.{allows};
 
 use crate::entry::Entry;
 use crate::sources::{register_operand, source_operand};
-use effects::{is_side, result, select_side, whole_port};
+use effects::{result, select_side, whole_port};
 use instructions::{Destination, Instruction, Operation, Register, Side, Source};
 use operands::{Operand, Spreading};
 
-// The mark of a bank after a select.
-fn still_unready(mark: bool, side: Side, selected: Option<Side>) -> bool
-    ensures { result ≡ (mark && not (is_side side selected)) }
+// An entry after a select, which makes the bank ready.
+fn selected<K: Operand>(entry: Entry<K>, side: Option<Side>) -> Entry<K>
+    ensures operands { result.operands ≡ entry.operands }
+    ensures left { result.left ≡ (entry.left && not (is_side Left side)) }
+    ensures right { result.right ≡ (entry.right && not (is_side Right side)) }
 {
-    mark && !is_side(side, selected)
+    match side {
+        Some(Side::Left) => Entry {
+            left: false,
+            ..entry
+        },
+        Some(Side::Right) => Entry {
+            right: false,
+            ..entry
+        },
+        None => entry,
+    }
 }
 
 // An operand stored in a register. A store in R7 or R17 makes its bank ready.
 fn stored<K: Operand>(entry: Entry<K>, register: Register, operand: K) -> Entry<K>
     ensures { Alike (allows K.Operand.operations result) (stored_in register (K.Operand.operations.has operand) (allows K.Operand.operations entry)) }
 {
-    let selected = select_side(register);
-    let left = still_unready(entry.left, Side::Left, selected);
-    let right = still_unready(entry.right, Side::Right, selected);
-    let mut operands = entry.operands;
-    operands[register.number() as usize] = operand;
-    Entry {
-        operands,
-        left,
-        right,
-    }
+    let mut entry = entry;
+    entry.operands[register.number() as usize] = operand;
+    selected(entry, select_side(register))
 }
 
 // The carry of ADD stored in R10.

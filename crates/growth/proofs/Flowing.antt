@@ -1,6 +1,9 @@
 -- Sending an entry to a word, register by register. Assumes nothing.
-use Rattle.std.proofs.Common.{◌≡◌, ℕ, ◌+◌, ◌-◌, ◌*◌, ◌/◌, ◌%◌, ◌<◌, ◌≤◌, Bool, true, false, cond, not, ◌&&◌, ◌||◌, eqb, ◌≢◌, ◌⊎◌, List, length, get_or, set, sym, refl, ap, ◌∙◌, subst, inl, inr, ⊎_elim, add-one, arith, get_or-set_other, get_or-set_same}
+use Rattle.std.proofs.Common.{◌≡◌, ℕ, ◌+◌, ◌-◌, ◌*◌, ◌/◌, ◌%◌, ◌<◌, ◌≤◌, Bool, true, false, cond, not, ◌&&◌, ◌||◌, eqb, ◌≢◌, ◌⊎◌, List, ◌++◌, length, get_or, set, take, drop, sym, refl, ap, ◌∙◌, subst, inl, inr, ⊎_elim, add-one, arith, get_or-set_other, get_or-set_same}
 use Rattle.std.proofs.lemmas.Bool.{cases_lt, cases_Bool, both_ways, or_parts, or_cases, eqb-true, eqb-false, eq-eqb, cond_both, or_left, or_right, and_parts, and_cases, not-true, not-false, not_from_true}
+use Rattle.std.proofs.lemmas.List.{get_or-take, get_or-drop, get_or_append_left, get_or-append_right}
+use Rattle.std.proofs.Math.Seq.{length-take-le}
+use borrow.Rule.Slice.PartMut.{mid_of, put_mid}
 use Rattle.operands.specs.Bytes.{Bytes}
 use Rattle.operands.specs.Operations.{Operations}
 use Rattle.flow.specs.declared.entry.Entry.{Entry}
@@ -61,6 +64,29 @@ weight_falls most b c r r' odd lt h f =
     (λ t. omega (arith, f (eqb-true _ _ t)))
     (λ t. omega arith))
 
+-- a list whose sixteen elements from a on are ys, and xs elsewhere
+module _ {X : Type 0} (a : ℕ) (xs ys : List X) (d : X) (room : a + 16 ≤ length xs) (long : length ys ≡ 16) where
+  front : length (take a xs) ≡ a
+  front = length-take-le a xs (omega arith)
+
+  part_is : (k : ℕ) → k < 16 → get_or (mid_of a 16 xs) k d ≡ get_or xs (a + k) d
+  part_is k h = get_or-take 16 (drop a xs) k d h ∙ get_or-drop a xs k d
+
+  put_inside : (k : ℕ) → k < 16 → get_or (put_mid a 16 xs ys) (a + k) d ≡ get_or ys k d
+  put_inside k h =
+      let e : a + k - a ≡ k = omega arith in
+      get_or-append_right (take a xs) _ a (a + k) d front (omega arith) ∙ ap (λ i. get_or (ys ++ drop 16 (drop a xs)) i d) e ∙ get_or_append_left ys _ d k (omega (arith, long))
+
+  put_outside : (i : ℕ) → (i < a) ⊎ (a + 16 ≤ i) → get_or (put_mid a 16 xs ys) i d ≡ get_or xs i d
+  put_outside i h =
+      ⊎_elim
+      (λ b. get_or_append_left (take a xs) _ d i (omega (arith, front)) ∙ get_or-take a xs i d b)
+      (λ b.
+      let e : a + (16 + (i - a - 16)) ≡ i = omega arith in
+      get_or-append_right (take a xs) _ a i d front (omega arith) ∙ get_or-append_right ys _ 16 (i - a) d long (omega arith)
+      ∙ get_or-drop 16 (drop a xs) (i - a - 16) d ∙ get_or-drop a xs _ d ∙ ap (λ j. get_or xs j d) e)
+      h
+
 module _ {K : Type 0} (o : Operations K) (joined : K → K → Bytes) (rank : K → ℕ) (top : ℕ) where
   abbrev at : List K → ℕ → K
   at xs i = get_or xs i o.some
@@ -120,6 +146,43 @@ module _ {K : Type 0} (o : Operations K) (joined : K → K → Bytes) (rank : K 
             (λ a. inr (omega (arith, p.level e, sums, ranked, d.rises e a)))
             (or_cases risen added t);
       }
+
+  -- what was done to the sixteen operands of the word q was done to the operands of the table
+  pub partly_part : (bare start : Bool) (q n r : ℕ) (new operands cells : List K) (risen : Bool) → n ≡ 16 → r ≡ 16 → 16 * q + 16 ≤ length operands → length cells ≡ 16
+      → Partly bare start 0 new (mid_of (16 * q) n operands) r risen cells → Partly bare start q new operands 16 risen (put_mid (16 * q) n operands cells)
+  partly_part bare start q n r new operands cells risen en er room long p =
+      subst (λ n. Partly bare start q new operands 16 risen (put_mid (16 * q) n operands cells)) (sym en)
+      (by (subst (λ r. Partly bare start 0 new (mid_of (16 * q) 16 operands) r risen cells) er (subst (λ n. Partly bare start 0 new (mid_of (16 * q) n operands) r risen cells) en p)))
+    where
+      all : List K
+      all = put_mid (16 * q) 16 operands cells
+
+      part : List K
+      part = mid_of (16 * q) 16 operands
+
+      was : (k : ℕ) → k < 16 → at part (16 * 0 + k) ≡ at operands (16 * q + k)
+      was k h = let z : 16 * 0 + k ≡ k = omega arith in ap (at part) z ∙ part_is (16 * q) operands cells o.some room long k h
+
+      now : (k : ℕ) → k < 16 → at cells (16 * 0 + k) ≡ at all (16 * q + k)
+      now k h = let z : 16 * 0 + k ≡ k = omega arith in ap (at cells) z ∙ sym (put_inside (16 * q) operands cells o.some room long k h)
+
+      before : sum_below 16 (λ k. rank (at part (16 * 0 + k))) ≡ sum_below 16 (λ k. rank (at operands (16 * q + k)))
+      before = sum_same 16 (λ k. rank (at part (16 * 0 + k))) (λ k. rank (at operands (16 * q + k))) (λ k h. ap rank (was k h))
+
+      after : sum_below 16 (λ k. rank (at cells (16 * 0 + k))) ≡ sum_below 16 (λ k. rank (at all (16 * q + k)))
+      after = sum_same 16 (λ k. rank (at cells (16 * 0 + k))) (λ k. rank (at all (16 * q + k))) (λ k h. ap rank (now k h))
+
+      by : Partly bare start 0 new (mid_of (16 * q) 16 operands) 16 risen cells → Partly bare start q new operands 16 risen all
+      by p =
+          record {
+            rest = λ i h. put_outside (16 * q) operands cells o.some room long i h;
+            each = λ k h.
+                let e = p.each k h in
+                (e.0, (subst (λ z. Blended o joined rank bare z (at new k) (at all (16 * q + k)) e.0) (was k h) (subst (λ z. Blended o joined rank bare (at part (16 * 0 + k)) (at new k) z e.0) (now k h) e.1.0), e.1.1));
+            quiet = p.quiet;
+            level = λ e. omega (arith, p.level e, before, after);
+            rose = λ e t. ⊎_elim (λ a. inl a) (λ lt. inr (omega (arith, lt, before, after))) (p.rose e t);
+          }
 
   module _ (bound : (x : K) → rank x ≤ top) (q : ℕ) (new : Entry K) (operands : List K) (status : List ℕ) (operands' : List K) where
     abbrev old : ℕ

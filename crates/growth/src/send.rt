@@ -48,8 +48,9 @@ pub(crate) fn send<K: Spreading>(operands: &mut [K], status: &mut [u8], q: usize
     let left = had_mark(old, Side::Left);
     let right = had_mark(old, Side::Right);
     let mut risen = bare | is_new(new.left, left) | is_new(new.right, right);
-    for r in 0..16 {
-        risen |= blend(bare, &mut operands[16 * q + r], new.operands[r]);
+    let cells = &mut operands[16 * q..16 * q + 16];
+    for (r, cell) in cells.iter_mut().enumerate() {
+        risen |= blend(bare, cell, new.operands[r]);
     }
     if risen {
         status[q] = due_status(new.left | left, new.right | right);

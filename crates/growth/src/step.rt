@@ -77,8 +77,8 @@ pub(crate) fn step<K: Spreading>(
     let first = first_target(here, p);
     let n = word_count(code);
     let mut low = p as usize;
-    for k in 0..target_count(here) {
-        if let Some(instruction) = runs_at(code, here, saved, p, first + k) {
+    for a in first..first + target_count(here) {
+        if let Some(instruction) = runs_at(code, here, saved, p, a) {
             low = pass(n, operands, status, p, instruction, saved, low);
         }
     }

@@ -14,7 +14,7 @@ returns g c =
     let e = c.args.entry in
     let low = number_below_16 r in
     let few : number_of r < length e.operands = omega arith in
-    stored_alike o e _ (number_of r) (select_side r) c.args.operand low few
-    (ap (λ k. set e.operands k c.args.operand) c.number.ensures.value)
-    (c.still_unready-left.ensures ∙ ap (λ (b : Option Side). (e.left && not (is_side Left b))) c.select_side-selected.ensures)
-    (c.still_unready-right.ensures ∙ ap (λ (b : Option Side). (e.right && not (is_side Right b))) c.select_side-selected.ensures)
+    stored_alike o e c.selected.result (number_of r) (select_side r) c.args.operand low few
+    (c.selected.ensures.operands ∙ ap (λ k. set e.operands k c.args.operand) c.number.ensures.value)
+    (c.selected.ensures.left ∙ ap (λ (b : Option Side). (e.left && not (is_side Left b))) c.select_side.ensures)
+    (c.selected.ensures.right ∙ ap (λ (b : Option Side). (e.right && not (is_side Right b))) c.select_side.ensures)

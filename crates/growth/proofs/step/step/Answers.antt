@@ -26,13 +26,13 @@ pass-low-requires g c =
       entry_fits (lone g.row.K.mir) (length c.args.operands.now) (omega arith) c.well_formed.1.0.1,
       record {
         words = omega (arith, n);
-        bytes = omega (arith, n, c.loop-k.auto.status, length-set c.args.status.now c.args.p (get_or c.args.status.now c.args.p 0 % 8));
-        cells = omega (arith, n, c.loop-k.auto.operands);
+        bytes = omega (arith, n, c.loop-a.auto.status, length-set c.args.status.now c.args.p (get_or c.args.status.now c.args.p 0 % 8));
+        cells = omega (arith, n, c.loop-a.auto.operands);
       },
     )
 
-pub loop-k-init : goal.loop-k-init
-loop-k-init g c =
+pub loop-a-init : goal.loop-a-init
+loop-a-init g c =
     let o = g.K.Operand.operations in
     let code = c.args.code.now in
     let p = c.args.p in
@@ -42,15 +42,15 @@ loop-k-init g c =
     let first = c.first_target-first.result in
     let due = tidy_due (get_or status p 0) (c.requires.growing.tidy p c.requires.inside) c.requires.due in
     let ls : p < length status = omega arith in
-    stepping_start o g.K.Operand.lawful g.K.Spreading.joined g.K.Spreading.rank g.K.Spreading.MAX_RANK code p saved (first + 0) status operands c.requires.inside ls due
+    stepping_start o g.K.Operand.lawful g.K.Spreading.joined g.K.Spreading.rank g.K.Spreading.MAX_RANK code p saved first status operands c.requires.inside ls due
     (entered_alike o status operands p saved (c.entry_at.ensures.entry saved c.in-Some.is).1) c.requires.quiet c.requires.growing
     (λ k i runs.
-    let within = runs_within o code p saved c.instruction_at-here.result first c.target_count-k-end.result
-    (c.instruction_at-here.ensures ∙ cond-true _ _ _ (lt-ltb _ _ c.requires.inside)) c.first_target-first.ensures c.target_count-k-end.ensures k i runs in
+    let within = runs_within o code p saved c.instruction_at-here.result first c.target_count.result
+    (c.instruction_at-here.ensures ∙ cond-true _ _ _ (lt-ltb _ _ c.requires.inside)) c.first_target-first.ensures c.target_count.ensures k i runs in
     omega (arith, within.0))
 
-pub loop-k-preserved : goal.loop-k-preserved
-loop-k-preserved g c =
+pub loop-a-preserved : goal.loop-a-preserved
+loop-a-preserved g c =
     let o = g.K.Operand.operations in
     let l = g.K.Operand.lawful in
     let joined = g.K.Spreading.joined in
@@ -61,24 +61,24 @@ loop-k-preserved g c =
     let s1 = taken_up c.args.status.now p in
     let c1 = c.args.operands.now in
     let saved = c.in-Some.saved in
-    let a = c.first_target-first.result + c.loop-k.k in
-    let a' = c.first_target-first.result + (c.loop-k.k + 1) in
+    let a = c.loop-a.a in
+    let a' = c.loop-a.a + 1 in
     let runs = c.runs_at.ensures in
     elim c.match-runs_at.branch [
       | in-Some-runs_at w ↦
           let i = w.in-Some-runs_at.instruction in
           stepping_is o l joined rank top code p saved s1 c1 a' w.pass-low.result w.pass-low.new.status w.pass-low.new.operands c.match-runs_at.low c.match-runs_at.status c.match-runs_at.operands
           w.low-is w.status-is w.operands-is
-          (stepping_word o l joined rank top code p saved s1 c1 a a' c.loop-k.low i c.loop-k.status c.loop-k.operands w.pass-low.result w.pass-low.new.status w.pass-low.new.operands
+          (stepping_word o l joined rank top code p saved s1 c1 a a' c.loop-a.low i c.loop-a.status c.loop-a.operands w.pass-low.result w.pass-low.new.status w.pass-low.new.operands
           (omega arith) c.requires.inside ((runs i).0 w.in-Some-runs_at.is)
           (λ j h. let x = (runs j).1 h in let y = w.in-Some-runs_at.is in let z : j ≡ i = cc in z)
-          (subst (λ n. Went o joined rank top n p c.loop-k.low i saved c.loop-k.status c.loop-k.operands w.pass-low.result w.pass-low.new.status w.pass-low.new.operands) c.word_count-n.ensures w.pass-low.ensures)
-          c.loop-k.invariant)
+          (subst (λ n. Went o joined rank top n p c.loop-a.low i saved c.loop-a.status c.loop-a.operands w.pass-low.result w.pass-low.new.status w.pass-low.new.operands) c.word_count-n.ensures w.pass-low.ensures)
+          c.loop-a.invariant)
       | in_default-runs_at w ↦
-          stepping_is o l joined rank top code p saved s1 c1 a' c.loop-k.low c.loop-k.status c.loop-k.operands c.match-runs_at.low c.match-runs_at.status c.match-runs_at.operands
+          stepping_is o l joined rank top code p saved s1 c1 a' c.loop-a.low c.loop-a.status c.loop-a.operands c.match-runs_at.low c.match-runs_at.status c.match-runs_at.operands
           w.low-is w.status-is w.operands-is
-          (stepping_skip o l joined rank top code p saved s1 c1 a a' c.loop-k.low c.loop-k.status c.loop-k.operands (omega arith)
-          (λ j h. w.in_default-runs_at.not-Some j ((runs j).1 h)) c.loop-k.invariant)
+          (stepping_skip o l joined rank top code p saved s1 c1 a a' c.loop-a.low c.loop-a.status c.loop-a.operands (omega arith)
+          (λ j h. w.in_default-runs_at.not-Some j ((runs j).1 h)) c.loop-a.invariant)
     ]
 
 pub returns : goal.returns
@@ -94,22 +94,22 @@ returns g c =
     let s0 = c.args.status.now in
     let c0 = c.args.operands.now in
     let s1 = taken_up s0 p in
-    let s2 = c.loop-k.status in
-    let c2 = c.loop-k.operands in
+    let s2 = c.loop-a.status in
+    let c2 = c.loop-a.operands in
     let saved = c.in-Some.saved in
     let first = c.first_target-first.result in
     let due = tidy_due (get_or s0 p 0) (c.requires.growing.tidy p c.requires.inside) c.requires.due in
     let ls : p < length s0 = omega arith in
     let taken = taken_eased o rank top n p s0 c0 ls due c.requires.inside in
-    let all : c.target_count-k-end.result ≤ c.loop-k.k = c.loop-k-test.false in
+    let all : first + c.target_count.result ≤ c.loop-a.a = c.loop-a-test.false in
     record {
-      growing = stepping_end o l joined rank top code p saved s1 c0 (first + c.loop-k.k) c.loop-k.low s2 c2
+      growing = stepping_end o l joined rank top code p saved s1 c0 c.loop-a.a c.loop-a.low s2 c2
           (λ k i runs.
-          let within = runs_within o code p saved c.instruction_at-here.result first c.target_count-k-end.result
-          (c.instruction_at-here.ensures ∙ cond-true _ _ _ (lt-ltb _ _ c.requires.inside)) c.first_target-first.ensures c.target_count-k-end.ensures k i runs in
+          let within = runs_within o code p saved c.instruction_at-here.result first c.target_count.result
+          (c.instruction_at-here.ensures ∙ cond-true _ _ _ (lt-ltb _ _ c.requires.inside)) c.first_target-first.ensures c.target_count.ensures k i runs in
           omega (arith, within.1))
-          c.loop-k.invariant;
-      kept = (eased_then o rank top n s0 c0 s1 c0 s2 c2 taken c.loop-k.invariant.eased).kept;
-      falls = load_falls o rank top n p s0 c0 s1 c0 s2 c2 c.requires.inside (taken_lighter o rank top n p s0 c0 ls due) taken c.loop-k.invariant.eased;
-      quiet = c.loop-k.invariant.quiet;
+          c.loop-a.invariant;
+      kept = (eased_then o rank top n s0 c0 s1 c0 s2 c2 taken c.loop-a.invariant.eased).kept;
+      falls = load_falls o rank top n p s0 c0 s1 c0 s2 c2 c.requires.inside (taken_lighter o rank top n p s0 c0 ls due) taken c.loop-a.invariant.eased;
+      quiet = c.loop-a.invariant.quiet;
     }

@@ -1,7 +1,6 @@
-use Rattle.std.proofs.Common.{◌+◌}
 use Rattle.growth.proofs.Stepping.{Stepping}
 use Rattle.growth.proofs.step.step.Given as goal
 
-abbrev pub invariant-loop-k : goal.invariant-loop-k
-invariant-loop-k g l =
-    Stepping g.K.Operand.operations g.K.Operand.lawful g.K.Spreading.joined g.K.Spreading.rank g.K.Spreading.MAX_RANK l.code l.p l.saved l.initial.status l.initial.operands (l.first + l.k) l.low l.status l.operands
+abbrev pub invariant-loop-a : goal.invariant-loop-a
+invariant-loop-a g l =
+    Stepping g.K.Operand.operations g.K.Operand.lawful g.K.Spreading.joined g.K.Spreading.rank g.K.Spreading.MAX_RANK l.code l.p l.saved l.initial.status l.initial.operands l.a l.low l.status l.operands
