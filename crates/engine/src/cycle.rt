@@ -8,6 +8,7 @@ ghost use Rattle.engine.specs.Laws.{CycleLaws};
 
 use crate::beside::Beside;
 use crate::fault::EngineFault;
+use crate::lines::Lines;
 use crate::machine::Machine;
 use banks::Bank;
 use effects::{in_page, next_address, uses};
@@ -96,14 +97,14 @@ impl<'a, L: Bank, R: Bank> Beside<'a, L, R> {
         self.execute(decode(word))
     }
 
-    fn advance(&mut self, code: &[u8], reset: bool, halt: bool) -> Result<(), EngineFault>
-        ensures { Gives L.Bank.ports R.Bank.ports (cycle_of code.now reset halt) self.old self.new result }
+    fn advance(&mut self, code: &[u8], lines: Lines) -> Result<(), EngineFault>
+        ensures { Gives L.Bank.ports R.Bank.ports (cycle_of code.now lines.reset lines.halt) self.old self.new result }
     {
-        if reset {
+        if lines.reset {
             self.machine.go_to(0);
             return Ok(());
         }
-        if halt {
+        if lines.halt {
             return Ok(());
         }
         self.step(code)
@@ -111,24 +112,23 @@ impl<'a, L: Bank, R: Bank> Beside<'a, L, R> {
 }
 
 impl Machine {
-    // One cycle with the reset and halt lines as given. A refusal changes neither machine nor banks.
+    // One cycle with the lines as given. A refusal changes neither machine nor banks.
     pub fn cycle<L: Bank, R: Bank>(
         &mut self,
         code: &[u8],
         left: &mut L,
         right: &mut R,
-        reset: bool,
-        halt: bool,
+        lines: Lines,
     ) -> Result<(), EngineFault>
-        ensures answer { result ≡ (cycle_of code.now reset halt (state_of self.old (L.Bank.ports left.old) (R.Bank.ports right.old))).0 }
-        ensures state { state_of self.new (L.Bank.ports left.new) (R.Bank.ports right.new) ≡ (cycle_of code.now reset halt (state_of self.old (L.Bank.ports left.old) (R.Bank.ports right.old))).1 }
-        ensures laws { CycleLaws code.now reset halt (state_of self.old (L.Bank.ports left.old) (R.Bank.ports right.old)) result (state_of self.new (L.Bank.ports left.new) (R.Bank.ports right.new)) }
+        ensures answer { result ≡ (cycle_of code.now lines.reset lines.halt (state_of self.old (L.Bank.ports left.old) (R.Bank.ports right.old))).0 }
+        ensures state { state_of self.new (L.Bank.ports left.new) (R.Bank.ports right.new) ≡ (cycle_of code.now lines.reset lines.halt (state_of self.old (L.Bank.ports left.old) (R.Bank.ports right.old))).1 }
+        ensures laws { CycleLaws code.now lines.reset lines.halt (state_of self.old (L.Bank.ports left.old) (R.Bank.ports right.old)) result (state_of self.new (L.Bank.ports left.new) (R.Bank.ports right.new)) }
     {
         Beside {
             machine: self,
             left,
             right,
         }
-        .advance(code, reset, halt)
+        .advance(code, lines)
     }
 }

@@ -6,10 +6,12 @@ mod bytes;
 mod cycle;
 mod datapath;
 mod fault;
+mod lines;
 mod machine;
 mod run;
 mod starting;
 
 pub use fault::EngineFault;
+pub use lines::Lines;
 pub use machine::Machine;
 pub use run::LONGEST_RUN;

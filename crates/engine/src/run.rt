@@ -4,6 +4,7 @@ ghost use Rattle.engine.specs.Cycles.{state_of};
 ghost use Rattle.engine.specs.Runs.{Ran, run_of, run_call};
 
 use crate::fault::EngineFault;
+use crate::lines::Lines;
 use crate::machine::Machine;
 use banks::Bank;
 
@@ -22,7 +23,7 @@ impl Machine {
         ensures { run_of code.now cycles (state_of self.old (L.Bank.ports left.old) (R.Bank.ports right.old)) ≡ record { finished = result.0; fault = result.1; after = state_of self.new (L.Bank.ports left.new) (R.Bank.ports right.new) } }
     {
         for finished in 0..cycles {
-            if let Err(fault) = self.cycle(code, left, right, false, false) {
+            if let Err(fault) = self.cycle(code, left, right, Lines::default()) {
                 return (finished, Some(fault));
             }
         }

@@ -2,7 +2,7 @@
 #![tactic(auto)]
 
 use banks::{Bank, Port, PortBank};
-use engine::Machine;
+use engine::{Lines, Machine};
 
 const CYCLES: u32 = 1_000_000;
 
@@ -22,7 +22,7 @@ fn main(rt: HostRuntime) -> anyhow::Result<()> {
     let mut left = bank(0x35);
     let mut right = bank(0);
     for _ in 0..CYCLES {
-        machine.cycle(&CODE, &mut left, &mut right, false, false)?;
+        machine.cycle(&CODE, &mut left, &mut right, Lines::default())?;
     }
     for register in machine.registers {
         print!(rt; "{register} ")?;

@@ -1,4 +1,4 @@
-use Rattle.std.proofs.Common.{sym, ◌∙◌, arith}
+use Rattle.std.proofs.Common.{rules, arith}
 use Rattle.engine.proofs.Runs.{run_none, run_more, run_refused, run_all}
 use Rattle.engine.proofs.machine.Machine.run_on.Goals as goal
 
@@ -8,12 +8,12 @@ loop-finished-init g c = run_none c.args.code.now c.args.cycles _
 pub loop-finished-preserved : goal.loop-finished-preserved
 loop-finished-preserved g c =
     run_more c.args.code.now c.args.cycles c.loop-finished.finished _ _ _ c.loop-finished-test.true c.loop-finished.invariant
-    (sym c.in_default.is ∙ c.cycle.ensures.answer) c.cycle.ensures.state
+    (search rules) (search rules)
 
 pub returns-in-Err : goal.returns-in-Err
 returns-in-Err g c =
     run_refused c.args.code.now c.args.cycles c.loop-finished.finished _ _ _ c.loop-finished-test.true c.loop-finished.invariant
-    c.in-Err.fault (sym c.in-Err.is ∙ c.cycle.ensures.answer) c.cycle.ensures.state
+    c.in-Err.fault (search rules) (search rules)
 
 pub returns : goal.returns
 returns g c =
