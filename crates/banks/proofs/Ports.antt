@@ -28,14 +28,22 @@ merges ps qs k new old h e =
       others = λ j n. ap (λ (z : Ports). port_at z j) e ∙ get_or-set_other ps k j p blank n;
     }
 
-pub length-stored : (bytes : List ℕ) → length (stored_ports bytes) ≡ length bytes
-length-stored bytes = length-map bytes stored
-
-pub stored_at : (bytes : List ℕ) (k : ℕ) → k < length bytes → port_at (stored_ports bytes) k ≡ stored (slice_index bytes k)
+stored_at : (bytes : List ℕ) (k : ℕ) → k < length bytes → port_at (stored_ports bytes) k ≡ stored (slice_index bytes k)
 stored_at bytes k h = get_or-map stored bytes k 0 blank h
 
 -- byte k merged by a mask of ones is port k merged by its own mask
-pub stored_merged : (bytes : List ℕ) (k v : ℕ) (mix : ℕ → ℕ → ℕ) → k < length bytes → v ≡ mix 255 (slice_index bytes k) → stored_ports (slice_set bytes k v) ≡ slice_set (stored_ports bytes) k (record { byte = mix (port_at (stored_ports bytes) k).mask (port_at (stored_ports bytes) k).byte; mask = (port_at (stored_ports bytes) k).mask })
+stored_merged : (bytes : List ℕ) (k v : ℕ) (mix : ℕ → ℕ → ℕ) → k < length bytes → v ≡ mix 255 (slice_index bytes k) → stored_ports (slice_set bytes k v) ≡ slice_set (stored_ports bytes) k (record { byte = mix (port_at (stored_ports bytes) k).mask (port_at (stored_ports bytes) k).byte; mask = (port_at (stored_ports bytes) k).mask })
 stored_merged bytes k v mix h e =
     map-set stored bytes k v
     ∙ ap (λ (p : Port). set (stored_ports bytes) k p) (ap stored e ∙ ap (λ (p : Port). record { byte = mix p.mask p.byte; mask = p.mask }) (sym (stored_at bytes k h)))
+
+abbrev mixed_at : (ℕ → ℕ) → (ℕ → ℕ) → ℕ → Ports → Ports
+mixed_at new old k ps =
+    slice_set ps k (record { byte = merged (port_at ps k).mask (new (port_at ps k).byte) (old (port_at ps k).byte); mask = (port_at ps k).mask })
+
+-- what a write or a drive leaves of storage: new and old are made of the byte that was there
+pub stored_mixed : (bytes : List ℕ) (k v : ℕ) (new old : ℕ → ℕ) → length bytes ≡ 256 → k < 256 → v ≡ merged 255 (new (slice_index bytes k)) (old (slice_index bytes k)) → (stored_ports (slice_set bytes k v) ≡ mixed_at new old k (stored_ports bytes)) × Merges k (new (port_at (stored_ports bytes) k).byte) (old (port_at (stored_ports bytes) k).byte) (stored_ports bytes) (stored_ports (slice_set bytes k v))
+stored_mixed bytes k v new old full h e =
+    let ps = stored_ports bytes in
+    let s = stored_merged bytes k v (λ (m b : ℕ). merged m (new b) (old b)) (omega (arith, full)) e in
+    (s, merges ps _ k (new (port_at ps k).byte) (old (port_at ps k).byte) (omega (arith, length-map bytes stored, full)) s)
