@@ -1,6 +1,6 @@
 // What the grants let a program change.
-ghost use Rattle.std.specs.Prelude.{◌≡◌, ◌<◌, if◌then◌else◌};
-ghost use Rattle.image.specs.Grants.{bank_number, entries, names, entry_mask, mask_of, IsMask};
+ghost use Rattle.std.specs.Prelude.{◌≡◌, length, if◌then◌else◌};
+ghost use Rattle.image.specs.Grants.{bank_number, names, entry_mask, mask_of, IsMask};
 
 use instructions::Side;
 
@@ -14,13 +14,13 @@ fn bank_number(side: Side) -> u8
     }
 }
 
-// The mask of a port by the entries up to the k-th, from the mask by those before it.
-fn mask_after(grants: &[u8], k: usize, bank: u8, port: u8, before: u8) -> u8
-    requires { k < entries grants.now }
-    ensures { result ≡ (if names grants.now k bank port then entry_mask grants.now k else before) }
+// The mask of a port by the entries up to this one, from the mask by those before it.
+fn mask_after(entry: &[u8], bank: u8, port: u8, before: u8) -> u8
+    requires { length entry.now ≡ 4 }
+    ensures { result ≡ (if names entry.now 0 bank port then entry_mask entry.now 0 else before) }
 {
-    if grants[4 * k] == bank && grants[4 * k + 1] == port {
-        grants[4 * k + 2]
+    if entry[0] == bank && entry[1] == port {
+        entry[2]
     } else {
         before
     }
@@ -33,8 +33,8 @@ pub fn mask(grants: &[u8], side: Side, port: u8) -> u8
 {
     let bank = bank_number(side);
     let mut found = 0;
-    for k in 0..grants.len() / 4 {
-        found = mask_after(grants, k, bank, port, found);
+    for entry in grants.chunks_exact(4) {
+        found = mask_after(entry, bank, port, found);
     }
     found
 }

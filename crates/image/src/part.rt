@@ -3,6 +3,7 @@ ghost use Rattle.std.specs.Prelude.{◌≡◌};
 ghost use Rattle.image.specs.Parts.{part_bytes, part_place};
 
 // A part of a file: the file's own bytes from a place on.
+// Two cases that each have a slice and a place, and no struct beside a kind: a rule of the project fixes this form.
 #[derive(Clone, Copy)]
 pub enum Part<'a> {
     // instruction words, two bytes each, the most significant one first

@@ -29,26 +29,21 @@ impl fmt::Display for Parts<'_> {
     }
 }
 
-fn put(file: &mut Vec<u8>, place: usize, byte: u8) {
-    if let Some(slot) = file.get_mut(place) {
-        *slot = byte;
-    }
-}
-
 // A file of `numbers[0]` bytes with the next five numbers as its header, and then bytes by place.
 fn made(heap: Global, numbers: &[u32]) -> Result<Vec<u8>, AllocError> {
     let length = numbers.first().copied().unwrap_or(0) as usize;
     let mut file = vec![in heap; 0u8; length]?;
-    for (i, number) in numbers.iter().skip(1).take(5).enumerate() {
-        let [a, b, c, d] = number.to_be_bytes();
-        put(&mut file, i.saturating_mul(4), a);
-        put(&mut file, i.saturating_mul(4).saturating_add(1), b);
-        put(&mut file, i.saturating_mul(4).saturating_add(2), c);
-        put(&mut file, i.saturating_mul(4).saturating_add(3), d);
+    let header = numbers.iter().skip(1).take(5);
+    for (bytes, number) in file.chunks_mut(4).zip(header) {
+        let number = number.to_be_bytes();
+        let whole = bytes.len().min(4);
+        bytes[..whole].copy_from_slice(&number[..whole]);
     }
-    for pair in numbers.chunks(2).skip(3) {
-        if let [place, byte] = pair {
-            put(&mut file, *place as usize, (*byte & 0xff) as u8);
+    for pair in numbers.chunks_exact(2).skip(3) {
+        if let [place, byte] = pair
+            && let Some(slot) = file.get_mut(*place as usize)
+        {
+            *slot = (*byte & 0xff) as u8;
         }
     }
     Ok(file)

@@ -11,19 +11,15 @@ pub struct Listing<'a> {
 }
 
 fn write_words<W: fmt::Write>(f: &mut fmt::Formatter<W>, code: &[u8]) -> fmt::Result {
-    for address in 0..word_count(code) {
-        if let Some(line) = word_at(code, address) {
-            writeln!(f, "{line}")?;
-        }
+    for line in (0..word_count(code)).filter_map(|address| word_at(code, address)) {
+        writeln!(f, "{line}")?;
     }
     Ok(())
 }
 
 fn write_grants<W: fmt::Write>(f: &mut fmt::Formatter<W>, grants: &[u8]) -> fmt::Result {
-    for entry in 0..grants.len() / 4 {
-        if let Some(line) = grant_at(grants, entry) {
-            writeln!(f, "{line}")?;
-        }
+    for line in (0..grants.len() / 4).filter_map(|entry| grant_at(grants, entry)) {
+        writeln!(f, "{line}")?;
     }
     Ok(())
 }

@@ -17,14 +17,11 @@ pub struct WordLine {
 pub fn word_at(code: &[u8], address: usize) -> Option<WordLine>
     ensures { ListsWord code.now address result }
 {
-    match fetch(code, address) {
-        Some(word) => Some(WordLine {
-            address,
-            word,
-            meaning: decode(word),
-        }),
-        None => None,
-    }
+    fetch(code, address).map(|word| WordLine {
+        address,
+        word,
+        meaning: decode(word),
+    })
 }
 
 // Address and word in octal, the word in hex, and the instruction: `00000  143405 c705  XMIT 5,R7`.

@@ -1,7 +1,7 @@
 // A line of the word list: the word in hex and `-`, or its class, source, destination and rebuilt word.
 // `R1>3` is a register and its rotation, `R1` one that is not rotated, `l4.2` and `r4.2` a bank field by bit and length, `#5` a constant.
-ghost use Rattle.std.specs.Prelude.{◌≡◌, ◌+◌, ◌<◌, is_some, if◌then◌else◌};
-ghost use Rattle.words.specs.Words.{meaning, permitted};
+ghost use Rattle.std.specs.Prelude.{◌≡◌};
+ghost use Rattle.words.specs.Words.{meaning};
 
 use instructions::{Destination, Field, Instruction, Side, Source};
 use std::fmt;
@@ -13,27 +13,13 @@ pub(crate) struct Line {
     meaning: Option<Instruction>,
 }
 
-impl Line {
-    pub(crate) fn of(word: u16) -> Line
-        ensures word { result.word ≡ word }
-        ensures meaning { result.meaning ≡ meaning word }
-        ensures permitted { is_some result.meaning ≡ permitted word }
-    {
+impl From<u16> for Line {
+    ghost from_gives = { λ w r. (r.word ≡ w) × (r.meaning ≡ meaning w) };
+
+    fn from(word: u16) -> Line {
         Line {
             word,
             meaning: decode(word),
-        }
-    }
-
-    // The number of permitted words with this one.
-    pub(crate) fn counted(&self, before: u32) -> u32
-        requires { before < 65536 }
-        ensures { result ≡ (if is_some self.now.meaning then 1 else 0) + before }
-    {
-        if self.meaning.is_some() {
-            before + 1
-        } else {
-            before
         }
     }
 }
@@ -47,22 +33,11 @@ fn write_field<W: fmt::Write>(f: &mut fmt::Formatter<W>, field: Field) -> fmt::R
     }
 }
 
-// A source; `rotates` says whether the word rotates a register.
-fn write_source<W: fmt::Write>(
-    f: &mut fmt::Formatter<W>,
-    source: Source,
-    rotates: bool,
-) -> fmt::Result {
+// A source without the rotation of a register.
+fn write_source<W: fmt::Write>(f: &mut fmt::Formatter<W>, source: Source) -> fmt::Result {
     match source {
+        Source::Register { register, .. } => write!(f, "{register}"),
         Source::Field(field) => write_field(f, field),
-        Source::Register { register, rotate } => {
-            write!(f, "{register}")?;
-            if rotates {
-                write!(f, ">{rotate}")
-            } else {
-                Ok(())
-            }
-        }
     }
 }
 
@@ -76,14 +51,7 @@ fn write_destination<W: fmt::Write>(
     }
 }
 
-fn is_register(destination: Destination) -> bool {
-    match destination {
-        Destination::Register(_) => true,
-        Destination::Field(_) => false,
-    }
-}
-
-// Source and destination. A jump has no destination.
+// Source and destination. A word rotates only from register to register; a jump has no destination.
 fn write_operands<W: fmt::Write>(
     f: &mut fmt::Formatter<W>,
     instruction: Instruction,
@@ -94,16 +62,18 @@ fn write_operands<W: fmt::Write>(
             source,
             destination,
         } => {
-            write_source(f, source, is_register(destination))?;
+            write_source(f, source)?;
+            if let (Source::Register { rotate, .. }, Destination::Register(_)) = (
+                source,
+                destination,
+            ) {
+                write!(f, ">{rotate}")?;
+            }
             f.write_str(" ")?;
             write_destination(f, destination)
         }
-        Instruction::Xec { source, offset } => {
-            write_source(f, source, false)?;
-            write!(f, " #{offset}")
-        }
-        Instruction::Nzt { source, offset } => {
-            write_source(f, source, false)?;
+        Instruction::Xec { source, offset } | Instruction::Nzt { source, offset } => {
+            write_source(f, source)?;
             write!(f, " #{offset}")
         }
         Instruction::Xmit {

@@ -3,29 +3,18 @@
 
 mod line;
 
-ghost use Rattle.std.specs.Prelude.{◌≡◌, IfOk};
-ghost use Rattle.words.specs.Words.{permitted_below};
-
 use crate::line::Line;
 use std::io;
 use std::io::{BufWriter, Write};
-
-// A line for each word. Answers how many are permitted.
-fn write_words<W: Write>(out: &mut W) -> io::Result<u32>
-    ensures { IfOk result (λ n. n ≡ permitted_below 65536) }
-{
-    let mut permitted = 0u32;
-    for n in 0..65_536u32 {
-        let line = Line::of(n as u16);
-        writeln!(out, "{line}")?;
-        permitted = line.counted(permitted);
-    }
-    Ok(permitted)
-}
+use words::permitted_words;
 
 fn main(rt: HostRuntime) -> io::Result<()> {
     let mut out = BufWriter::new(rt.alloc(), rt.stdout())?;
-    let permitted = write_words(&mut out)?;
+    for word in 0..=u16::MAX {
+        let line = Line::from(word);
+        writeln!(out, "{line}")?;
+    }
+    let permitted = permitted_words();
     writeln!(out, "permitted {permitted}")?;
     out.flush()
 }
