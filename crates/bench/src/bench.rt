@@ -32,6 +32,7 @@ impl Bench {
     }
 
     // A value driven on a port from the outside.
+    // Both sides are written out, as in `Setup`: a type for two sides would take more lines than these arms.
     pub fn drive(&mut self, side: Side, port: u8, value: u8)
         ensures { state_at self.new ≡ driven_on side port value (state_at self.old) }
     {

@@ -19,9 +19,5 @@ fn mixed(hash: u64, byte: u8) -> u64
 pub fn bank_checksum(bank: &PortBank) -> u64
     ensures { result ≡ checksum_of (port_bytes bank.now.ports) }
 {
-    let mut hash = OFFSET_BASIS;
-    for port in 0..256usize {
-        hash = mixed(hash, bank.read(port as u8));
-    }
-    hash
+    (0..=255u8).fold(OFFSET_BASIS, |hash, port| mixed(hash, bank.read(port)))
 }

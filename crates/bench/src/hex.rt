@@ -5,12 +5,7 @@ ghost use Rattle.bench.specs.Hex.{digit_value, byte_of};
 fn digit(character: u8) -> Option<u8>
     ensures { result ≡ digit_value character }
 {
-    match character {
-        b'0'..=b'9' => Some(character - b'0'),
-        b'a'..=b'f' => Some(character - b'a' + 10),
-        b'A'..=b'F' => Some(character - b'A' + 10),
-        _ => None,
-    }
+    char::from(character).to_digit(16).map(|digit| digit as u8)
 }
 
 // The byte that one or two hex digits stand for.

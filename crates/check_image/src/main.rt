@@ -4,44 +4,14 @@
 
 mod options;
 
-use anyhow::anyhow;
 use checker::{Acceptance, CheckFault, check};
-use image::MOST_BYTES;
+use files::file_or_input;
 use marks::Marks;
 use operands::{LeastJoin, Operand, Spreading};
-use options::{Kind, Options, USAGE, read_options};
+use options::{Kind, Options, OptionsFault, USAGE, read_options};
 use sets::Set;
 use std::alloc::Global;
-use std::fs::File;
-use std::io;
-use std::io::Read;
 use std::process::ExitCode;
-
-// A file's bytes. Of a file that is too long only as many as show that.
-fn bytes_of<R: Read + Drop>(heap: Global, source: R) -> io::Result<Vec<u8>> {
-    let mut bytes = Vec::new(heap);
-    source.take(MOST_BYTES as u64 + 1).read_to_end(&mut bytes)?;
-    Ok(bytes)
-}
-
-fn opened(rt: &HostRuntime, path: &str) -> io::Result<Vec<u8>> {
-    bytes_of(rt.alloc(), File::open(rt, path)?)
-}
-
-// The bytes of a file, or a message that names it.
-fn file_at(rt: &HostRuntime, path: &str) -> anyhow::Result<Vec<u8>> {
-    match opened(rt, path) {
-        Ok(bytes) => Ok(bytes),
-        Err(error) => Err(anyhow!(format!(in rt.alloc(); "{path}: {error}")?)),
-    }
-}
-
-fn input(rt: &HostRuntime, path: &Option<String>) -> anyhow::Result<Vec<u8>> {
-    match path {
-        Some(path) => file_at(rt, path.as_str()),
-        None => Ok(bytes_of(rt.alloc(), rt.stdin())?),
-    }
-}
 
 // The verdict over a kind, with a table for so many words.
 fn judged<K: LeastJoin + Clone>(
@@ -54,8 +24,8 @@ fn judged<K: LeastJoin + Clone>(
     Ok(check(file, operands.as_mut_slice(), status.as_mut_slice()))
 }
 
-fn run(rt: &HostRuntime, options: Options) -> anyhow::Result<bool> {
-    let file = input(rt, &options.path)?;
+fn run(rt: &HostRuntime, options: Options) -> anyhow::Result<ExitCode> {
+    let file = file_or_input(rt, options.path.as_deref())?;
     let verdict = match options.kind {
         Kind::Marks => judged::<Marks>(rt.alloc(), file.as_slice(), options.words)?,
         Kind::Set => judged::<Set>(rt.alloc(), file.as_slice(), options.words)?,
@@ -66,23 +36,26 @@ fn run(rt: &HostRuntime, options: Options) -> anyhow::Result<bool> {
                 "accept words {} reached {}",
                 acceptance.words, acceptance.reached
             )?;
-            Ok(true)
+            Ok(ExitCode::SUCCESS)
         }
         Err(fault) => {
             println!(rt; "{fault}")?;
-            Ok(false)
+            Ok(ExitCode::FAILURE)
         }
     }
 }
 
 fn main(rt: HostRuntime) -> anyhow::Result<ExitCode> {
-    let Some(options) = read_options(&rt)? else {
-        eprintln!(rt; "{USAGE}")?;
-        return Ok(ExitCode::FAILURE);
+    let options = match read_options(&rt) {
+        Ok(options) => options,
+        Err(OptionsFault::Usage) => {
+            eprintln!(rt; "{USAGE}")?;
+            return Ok(ExitCode::FAILURE);
+        }
+        Err(OptionsFault::Arguments(error)) => return Err(error.into()),
     };
     match run(&rt, options) {
-        Ok(true) => Ok(ExitCode::SUCCESS),
-        Ok(false) => Ok(ExitCode::FAILURE),
+        Ok(status) => Ok(status),
         Err(error) => {
             eprintln!(rt; "check_image: {error}")?;
             Ok(ExitCode::FAILURE)

@@ -1,11 +1,12 @@
 // The arguments of the program.
-use std::alloc::Global;
-use std::env;
+ghost use Rattle.std.specs.Prelude.{◌≤◌};
+ghost use Rattle.std.specs.Vec.Iter.{into_iter_len};
+
+use std::str::FromStr;
+use std::{env, io};
+use words::MOST_WORDS;
 
 pub const USAGE: &str = "usage: check_image [--kind marks|set] [--words 1..8192] [FILE]";
-
-// No image has more words.
-const MOST_WORDS: u16 = 8_192;
 
 #[derive(Clone, Copy)]
 pub enum Kind {
@@ -22,64 +23,70 @@ pub struct Options {
     pub path: Option<String>,
 }
 
-// What the next argument is.
+// An argument is wrong, or missing.
 #[derive(Clone, Copy)]
-enum Next {
-    Any,
-    Kind,
-    Words,
+pub struct WrongArgument;
+
+// Why there are no options.
+#[derive(Drop)]
+pub enum OptionsFault {
+    Usage,
+    // the arguments cannot be read
+    Arguments(io::Error),
 }
 
-fn kind_of(text: &str) -> Option<Kind> {
-    match text {
-        "marks" => Some(Kind::Marks),
-        "set" => Some(Kind::Set),
-        _ => None,
+impl From<WrongArgument> for OptionsFault {
+    fn from(_wrong: WrongArgument) -> OptionsFault {
+        OptionsFault::Usage
     }
 }
 
-fn words_of(text: &str) -> Option<u16> {
-    match text.parse::<u16>() {
-        Ok(words) => {
-            if 0 < words && words <= MOST_WORDS {
-                Some(words)
-            } else {
-                None
-            }
+impl From<io::Error> for OptionsFault {
+    fn from(error: io::Error) -> OptionsFault {
+        OptionsFault::Arguments(error)
+    }
+}
+
+impl FromStr for Kind {
+    type Err = WrongArgument;
+
+    fn from_str(text: &str) -> Result<Kind, WrongArgument> {
+        match text {
+            "marks" => Ok(Kind::Marks),
+            "set" => Ok(Kind::Set),
+            _ => Err(WrongArgument),
         }
-        Err(_) => None,
     }
+}
+
+fn words_of(text: &str) -> Result<u16, WrongArgument> {
+    text.parse::<u16>()
+        .ok()
+        .filter(|words| (1..=MOST_WORDS).contains(&usize::from(*words)))
+        .ok_or(WrongArgument)
 }
 
 impl Options {
-    // Takes one argument up; none where it is wrong.
-    fn take(&mut self, next: Next, argument: String) -> Option<Next> {
-        match next {
-            Next::Kind => {
-                self.kind = kind_of(argument.as_str())?;
-                Some(Next::Any)
-            }
-            Next::Words => {
-                self.words = words_of(argument.as_str())?;
-                Some(Next::Any)
-            }
-            Next::Any => match argument.as_str() {
-                "--kind" => Some(Next::Kind),
-                "--words" => Some(Next::Words),
-                text => {
-                    if text.starts_with("--") || self.path.is_some() {
-                        return None;
-                    }
-                    self.path = Some(argument);
-                    Some(Next::Any)
+    // Takes the argument up, with the value after it if it has one.
+    fn take(&mut self, argument: String, rest: &mut env::Args) -> Result<(), WrongArgument>
+        ensures { into_iter_len rest.new ≤ into_iter_len rest.old }
+    {
+        match argument.as_str() {
+            "--kind" => self.kind = rest.next().ok_or(WrongArgument)?.as_str().parse::<Kind>()?,
+            "--words" => self.words = words_of(rest.next().ok_or(WrongArgument)?.as_str())?,
+            text => {
+                if text.starts_with("--") || self.path.is_some() {
+                    return Err(WrongArgument);
                 }
-            },
+                self.path = Some(argument);
+            }
         }
+        Ok(())
     }
 }
 
-// The options that the arguments give, or none where one is wrong.
-pub fn read_options(rt: &HostRuntime) -> anyhow::Result<Option<Options>> {
+// The options that the arguments give.
+pub fn read_options(rt: &HostRuntime) -> Result<Options, OptionsFault> {
     let mut options = Options {
         kind: Kind::Marks,
         words: 512,
@@ -87,15 +94,8 @@ pub fn read_options(rt: &HostRuntime) -> anyhow::Result<Option<Options>> {
     };
     let mut args = env::args(rt)?;
     let _program = args.next();
-    let mut next = Next::Any;
-    for argument in args {
-        match options.take(next, argument) {
-            Some(after) => next = after,
-            None => return Ok(None),
-        }
+    while let Some(argument) = args.next() {
+        options.take(argument, &mut args)?;
     }
-    match next {
-        Next::Any => Ok(Some(options)),
-        _ => Ok(None),
-    }
+    Ok(options)
 }

@@ -4,18 +4,12 @@
 #![tactic(auto)]
 
 use anyhow::anyhow;
-use image::{MOST_BYTES, read};
+use files::file_at;
+use image::read;
 use scripts::play;
-use std::fs::File;
 use std::io::{BufWriter, Read, Write};
 use std::process::ExitCode;
 use std::{env, io};
-
-#[derive(Clone, Copy)]
-enum Outcome {
-    Played,
-    Refused,
-}
 
 fn image_path(rt: &HostRuntime) -> anyhow::Result<String> {
     let mut args = env::args(rt)?;
@@ -25,23 +19,6 @@ fn image_path(rt: &HostRuntime) -> anyhow::Result<String> {
     match (path, more) {
         (Some(path), None) => Ok(path),
         _ => Err(anyhow!("usage: run_script IMAGE, with the script on standard input")),
-    }
-}
-
-// A file's bytes. Of a file that is too long only as many as show that.
-fn opened(rt: &HostRuntime, path: &str) -> io::Result<Vec<u8>> {
-    let mut bytes = Vec::new(rt.alloc());
-    File::open(rt, path)?
-        .take(MOST_BYTES as u64 + 1)
-        .read_to_end(&mut bytes)?;
-    Ok(bytes)
-}
-
-// The bytes of a file, or a message that names it.
-fn file_at(rt: &HostRuntime, path: &str) -> anyhow::Result<Vec<u8>> {
-    match opened(rt, path) {
-        Ok(bytes) => Ok(bytes),
-        Err(error) => Err(anyhow!(format!(in rt.alloc(); "{path}: {error}")?)),
     }
 }
 
@@ -57,31 +34,27 @@ fn play_input(rt: &HostRuntime, code: &[u8]) -> anyhow::Result<()> {
     let mut out = BufWriter::new(rt.alloc(), rt.stdout())?;
     let played = play(script.as_str(), code, &mut out);
     out.flush()?;
-    match played {
-        Ok(()) => Ok(()),
-        Err(fault) => Err(anyhow!(format!(in rt.alloc(); "{fault}")?)),
-    }
+    played.map_err(|fault| anyhow!("{fault}"))
 }
 
-fn run(rt: &HostRuntime) -> anyhow::Result<Outcome> {
+fn run(rt: &HostRuntime) -> anyhow::Result<ExitCode> {
     let path = image_path(rt)?;
     let file = file_at(rt, path.as_str())?;
     match read(file.as_slice()) {
         Ok(image) => {
             play_input(rt, image.code.bytes())?;
-            Ok(Outcome::Played)
+            Ok(ExitCode::SUCCESS)
         }
         Err(fault) => {
             println!(rt; "{fault}")?;
-            Ok(Outcome::Refused)
+            Ok(ExitCode::FAILURE)
         }
     }
 }
 
 fn main(rt: HostRuntime) -> io::Result<ExitCode> {
     match run(&rt) {
-        Ok(Outcome::Played) => Ok(ExitCode::SUCCESS),
-        Ok(Outcome::Refused) => Ok(ExitCode::FAILURE),
+        Ok(status) => Ok(status),
         Err(error) => {
             eprintln!(rt; "run_script: {error}")?;
             Ok(ExitCode::FAILURE)

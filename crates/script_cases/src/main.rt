@@ -33,22 +33,17 @@ fn first_difference<'a>(answers: &'a str, expected: &'a str) -> Option<Differenc
             return Some(Difference { line, expected });
         }
     }
-    match expected_lines.next() {
-        Some(expected) => Some(Difference { line: "", expected }),
-        None => None,
-    }
+    expected_lines
+        .next()
+        .map(|expected| Difference { line: "", expected })
 }
 
 // What a script writes on the code of an image file.
 fn answers(heap: Global, file: &[u8], script: &str) -> anyhow::Result<Vec<u8>> {
     let mut out = Vec::new(heap);
-    match read(file) {
-        Ok(image) => match play(script, image.code.bytes(), &mut out) {
-            Ok(()) => Ok(out),
-            Err(fault) => Err(anyhow!(format!(in heap; "{fault}")?)),
-        },
-        Err(fault) => Err(anyhow!(format!(in heap; "{fault}")?)),
-    }
+    let image = read(file).map_err(|fault| anyhow!("{fault}"))?;
+    play(script, image.code.bytes(), &mut out).map_err(|fault| anyhow!("{fault}"))?;
+    Ok(out)
 }
 
 // Prints how a case comes out, and says whether it agrees.

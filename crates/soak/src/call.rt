@@ -1,21 +1,12 @@
 // Calls without a pattern.
-use crate::numbers::Numbers;
+use bench::Call;
+use effects::selector;
 use engine::{LONGEST_RUN, Machine};
-use instructions::{Register, Side};
-
-#[derive(Clone, Copy)]
-pub(crate) enum Call {
-    Drive { side: Side, port: u8, value: u8 },
-    Cycle { reset: bool, halt: bool },
-    Run { cycles: usize },
-}
+use instructions::Side;
+use numbers::Numbers;
 
 fn selected(machine: &Machine, side: Side) -> u8 {
-    let register = match side {
-        Side::Left => Register::R7,
-        Side::Right => Register::R17,
-    };
-    machine.registers[register.number() as usize]
+    machine.registers[selector(side).number() as usize]
 }
 
 // Half of the drives go to the port that the machine has selected.

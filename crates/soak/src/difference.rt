@@ -1,5 +1,6 @@
 // What can differ from what the check promises.
 use engine::EngineFault;
+use instructions::Side;
 use std::fmt;
 
 #[derive(Clone, Copy)]
@@ -15,8 +16,7 @@ pub(crate) enum Difference {
     // a register holds a byte that the table excludes
     Register { number: usize, byte: u8 },
     // a port of a bank has changed in a bit that is withheld
-    LeftPort(usize),
-    RightPort(usize),
+    Port { side: Side, port: usize },
 }
 
 impl fmt::Display for Difference {
@@ -28,9 +28,8 @@ impl fmt::Display for Difference {
             }
             Difference::Address { pc, ar } => write!(f, "outside: pc {pc} ar {ar}"),
             Difference::Unreached { pc } => write!(f, "pc {pc} not in the table"),
-            Difference::Register { number, byte } => { write!(f, "register {number} holds {byte}") }
-            Difference::LeftPort(port) => write!(f, "left port {port}"),
-            Difference::RightPort(port) => write!(f, "right port {port}"),
+            Difference::Register { number, byte } => write!(f, "register {number} holds {byte}"),
+            Difference::Port { side, port } => write!(f, "{side} port {port}"),
         }
     }
 }

@@ -5,13 +5,11 @@
 
 mod call;
 mod difference;
-mod numbers;
 mod player;
 mod subject;
 mod tally;
 mod twin;
 
-use crate::numbers::Numbers;
 use crate::player::{Finding, Player};
 use crate::subject::Subject;
 use crate::tally::Tally;
@@ -19,6 +17,7 @@ use anyhow::anyhow;
 use checker::check;
 use image::read;
 use marks::Marks;
+use numbers::Numbers;
 use operands::{LeastJoin, Operand, Spreading};
 use std::io::{BufRead, BufReader, BufWriter, Write};
 use std::{fs, io};
@@ -65,9 +64,10 @@ fn report<W: Write>(
 }
 
 fn word_of(finding: Option<Finding>) -> &'static str {
-    match finding {
-        Some(_) => "is noticed",
-        None => "is not noticed",
+    if finding.is_some() {
+        "is noticed"
+    } else {
+        "is not noticed"
     }
 }
 
@@ -78,7 +78,7 @@ fn report_misses<W: Write>(
     subject: &Subject<'_>,
     seed: u64,
 ) -> io::Result<()> {
-    let mut tally = Tally::new();
+    let mut tally = Tally::default();
     let drive = word_of(soak(subject, seed, subject.withheld_port(), &mut tally));
     writeln!(out, "{name} a missed drive {drive}")?;
     let write = word_of(soak(&subject.without_grants(), seed, None, &mut tally));
@@ -98,19 +98,15 @@ fn soak_image<W: Write>(
     let file = fs::read(rt, name)?;
     let mut operands = vec![in heap; Marks::all(); 16 * MOST_WORDS]?;
     let mut status = vec![in heap; 0u8; MOST_WORDS]?;
-    if let Err(fault) = check(
+    check(
         file.as_slice(),
         operands.as_mut_slice(),
         status.as_mut_slice(),
-    ) {
-        return Err(anyhow!(format!(in heap; "{name}: {fault}")?));
-    }
-    let image = match read(file.as_slice()) {
-        Ok(image) => image,
-        Err(fault) => return Err(anyhow!(format!(in heap; "{name}: {fault}")?)),
-    };
+    )
+    .map_err(|fault| anyhow!("{name}: {fault}"))?;
+    let image = read(file.as_slice()).map_err(|fault| anyhow!("{name}: {fault}"))?;
     let subject = Subject::new(image, operands.as_slice(), status.as_slice());
-    let mut tally = Tally::new();
+    let mut tally = Tally::default();
     let finding = soak(&subject, number, None, &mut tally);
     report(out, name, tally.calls, finding)?;
     if number == 0 {
@@ -121,7 +117,7 @@ fn soak_image<W: Write>(
 
 fn run(rt: &HostRuntime) -> anyhow::Result<()> {
     let mut out = BufWriter::new(rt.alloc(), rt.stdout())?;
-    let mut total = Tally::new();
+    let mut total = Tally::default();
     let mut images = 0u64;
     for name in BufReader::new(rt.alloc(), rt.stdin())?.lines(rt.alloc()) {
         total.add(soak_image(rt, &mut out, name?.as_str(), images)?);

@@ -1,13 +1,13 @@
 // A machine with its banks, and calls on it.
-use crate::call::{Call, some_call};
+use crate::call::some_call;
 use crate::difference::Difference;
-use crate::numbers::Numbers;
 use crate::subject::Subject;
 use crate::tally::Tally;
 use crate::twin::Twin;
-use banks::Bank;
+use bench::Call;
 use engine::{EngineFault, LONGEST_RUN, Machine};
 use instructions::Side;
+use numbers::Numbers;
 
 const CALLS: u64 = 2_000;
 
@@ -31,18 +31,18 @@ pub(crate) struct Player {
 
 fn some_registers(numbers: &mut Numbers) -> [u8; 16] {
     let mut registers = [0u8; 16];
-    for number in 0..16usize {
-        registers[number] = numbers.next_byte();
+    for register in registers.iter_mut() {
+        *register = numbers.next_byte();
     }
     registers
 }
 
 // Whether a run answers as it should: all its cycles, or a refusal if it is too long.
 fn is_answer(cycles: usize, finished: usize, fault: Option<EngineFault>) -> bool {
-    match fault {
-        None => cycles <= LONGEST_RUN && finished == cycles,
-        Some(EngineFault::RunLength) => cycles > LONGEST_RUN && finished == 0,
-        Some(_) => false,
+    if cycles > LONGEST_RUN {
+        (finished, fault) == (0, Some(EngineFault::RunLength))
+    } else {
+        (finished, fault) == (cycles, None)
     }
 }
 
@@ -53,7 +53,7 @@ impl Player {
             machine: Machine::new(some_registers(numbers)),
             left: Twin::new(numbers, missed),
             right: Twin::new(numbers, None),
-            tally: Tally::new(),
+            tally: Tally::default(),
         }
     }
 
@@ -70,10 +70,10 @@ impl Player {
 
     fn cycle(&mut self, code: &[u8], reset: bool, halt: bool) -> Option<Difference> {
         self.tally.cycles = self.tally.cycles.saturating_add(1);
-        match self.machine.cycle(code, &mut self.left.bank, &mut self.right.bank, reset, halt) {
-            Ok(()) => None,
-            Err(fault) => Some(Difference::Refused(fault)),
-        }
+        self.machine
+            .cycle(code, &mut self.left.bank, &mut self.right.bank, reset, halt)
+            .err()
+            .map(Difference::Refused)
     }
 
     fn run(&mut self, code: &[u8], cycles: usize) -> Option<Difference> {
@@ -100,6 +100,8 @@ impl Player {
             }
             Call::Cycle { reset, halt } => self.cycle(code, reset, halt),
             Call::Run { cycles } => self.run(code, cycles),
+            // what the machine and the banks hold is compared after every call
+            Call::State => None,
         }
     }
 
@@ -108,12 +110,13 @@ impl Player {
         let changed = self.left.changed().saturating_add(self.right.changed());
         self.tally.changed = self.tally.changed.saturating_add(changed);
         if let Some(port) = self.left.difference(&subject.left) {
-            return Some(Difference::LeftPort(port));
+            let side = Side::Left;
+            return Some(Difference::Port { side, port });
         }
-        match self.right.difference(&subject.right) {
-            Some(port) => Some(Difference::RightPort(port)),
-            None => None,
-        }
+        let side = Side::Right;
+        self.right
+            .difference(&subject.right)
+            .map(|port| Difference::Port { side, port })
     }
 
     // What differs after a call, by the answer, the machine or, now and then, the banks.

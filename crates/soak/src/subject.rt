@@ -19,8 +19,8 @@ pub(crate) struct Subject<'a> {
 
 fn withheld(grants: &[u8], side: Side) -> [u8; 256] {
     let mut out = [0u8; 256];
-    for port in 0..256usize {
-        out[port] = 255 ^ mask(grants, side, port as u8);
+    for (port, bits) in (0..=255u8).zip(out.iter_mut()) {
+        *bits = 255 ^ mask(grants, side, port);
     }
     out
 }
@@ -40,65 +40,50 @@ impl<'a> Subject<'a> {
     // The same image, as if nothing were granted.
     pub(crate) fn without_grants(self) -> Subject<'a> {
         Subject {
-            code: self.code,
-            operands: self.operands,
-            status: self.status,
             left: [255; 256],
             right: [255; 256],
+            ..self
         }
     }
 
     // The same image, with the table's operands of each address at the one before.
     pub(crate) fn with_moved_table(self) -> Subject<'a> {
-        let operands = if self.operands.len() < 16 {
-            self.operands
-        } else {
-            &self.operands[16..]
-        };
         Subject {
-            code: self.code,
-            operands,
-            status: self.status,
-            left: self.left,
-            right: self.right,
+            operands: self.operands.get(16..).unwrap_or(self.operands),
+            ..self
         }
     }
 
     // The first port of the left bank that has withheld bits.
     pub(crate) fn withheld_port(&self) -> Option<u8> {
-        for port in 0..256usize {
-            if self.left[port] != 0 {
-                return Some(port as u8);
-            }
-        }
-        None
+        (0..=255u8)
+            .zip(&self.left)
+            .find(|(_, withheld)| **withheld != 0)
+            .map(|(port, _)| port)
     }
 
     fn allows(&self, pc: usize, number: usize, byte: u8) -> bool {
-        match self
-            .operands
-            .get(pc.saturating_mul(16).saturating_add(number))
-        {
-            Some(operand) => operand.contains(byte),
-            None => false,
-        }
+        let place = pc.saturating_mul(16).saturating_add(number);
+        self.operands
+            .get(place)
+            .is_some_and(|operand| operand.contains(byte))
     }
 
     fn reaches(&self, pc: usize) -> bool {
-        match self.status.get(pc) {
-            Some(status) => *status % 2 == 1,
-            None => false,
-        }
+        self.status.get(pc).is_some_and(|status| *status % 2 == 1)
     }
 
     fn register_difference(&self, machine: &Machine) -> Option<Difference> {
-        for number in 0..16usize {
-            let byte = machine.registers[number];
-            if !self.allows(machine.pc as usize, number, byte) {
-                return Some(Difference::Register { number, byte });
-            }
-        }
-        None
+        let pc = machine.pc as usize;
+        machine
+            .registers
+            .iter()
+            .enumerate()
+            .find(|(number, byte)| !self.allows(pc, *number, **byte))
+            .map(|(number, byte)| Difference::Register {
+                number,
+                byte: *byte,
+            })
     }
 
     // What of a machine the table excludes.

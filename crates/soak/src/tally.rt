@@ -1,7 +1,7 @@
 // What was compared.
 use std::fmt;
 
-#[derive(Clone, Copy)]
+#[derive(Clone, Copy, Default)]
 pub(crate) struct Tally {
     pub(crate) calls: u64,
     pub(crate) cycles: u64,
@@ -13,17 +13,6 @@ pub(crate) struct Tally {
 }
 
 impl Tally {
-    pub(crate) fn new() -> Tally {
-        Tally {
-            calls: 0,
-            cycles: 0,
-            refused_runs: 0,
-            registers: 0,
-            ports: 0,
-            changed: 0,
-        }
-    }
-
     pub(crate) fn add(&mut self, other: Tally) {
         self.calls = self.calls.saturating_add(other.calls);
         self.cycles = self.cycles.saturating_add(other.cycles);

@@ -1,6 +1,6 @@
 // Two banks that start alike.
-use crate::numbers::Numbers;
 use banks::{Bank, Port, PortBank};
+use numbers::Numbers;
 
 // A bank that a machine works on, and beside it one that only the outside drives.
 #[derive(Drop)]
@@ -23,8 +23,8 @@ fn some_port(numbers: &mut Numbers) -> Port {
 
 fn some_ports(numbers: &mut Numbers) -> [Port; 256] {
     let mut ports = [Port { byte: 0, mask: 0 }; 256];
-    for place in 0..256usize {
-        ports[place] = some_port(numbers);
+    for port in ports.iter_mut() {
+        *port = some_port(numbers);
     }
     ports
 }
@@ -39,16 +39,9 @@ impl Twin {
         }
     }
 
-    fn misses(&self, port: u8) -> bool {
-        match self.missed {
-            Some(missed) => missed == port,
-            None => false,
-        }
-    }
-
     pub(crate) fn drive(&mut self, port: u8, value: u8) {
         self.bank.drive(port, value);
-        if !self.misses(port) {
+        if self.missed != Some(port) {
             self.driven.drive(port, value);
         }
     }
@@ -60,22 +53,13 @@ impl Twin {
 
     // The first port that differs in a withheld bit.
     pub(crate) fn difference(&self, withheld: &[u8; 256]) -> Option<usize> {
-        for port in 0..256usize {
-            if self.bits(port as u8) & withheld[port] != 0 {
-                return Some(port);
-            }
-        }
-        None
+        (0..=255u8)
+            .zip(withheld)
+            .position(|(port, withheld)| self.bits(port) & *withheld != 0)
     }
 
     // How many ports differ in any bit.
     pub(crate) fn changed(&self) -> u64 {
-        let mut count = 0u64;
-        for port in 0..256usize {
-            if self.bits(port as u8) != 0 {
-                count = count.saturating_add(1);
-            }
-        }
-        count
+        (0..=255u8).filter(|port| self.bits(*port) != 0).count() as u64
     }
 }
