@@ -8,7 +8,7 @@ ghost use Rattle.scan.specs.Verdicts.{First, EntryShows, Suffices, Scanned};
 use crate::fault::ScanFault;
 use crate::masks::Masks;
 use crate::program::Program;
-use flow::{Breach, entry_at};
+use flow::{Breach, Status, entry_at};
 use operands::{Operand, Spreading};
 use words::word_count;
 
@@ -26,7 +26,7 @@ impl Program<'_> {
         requires { (p < words_in self.now.code.now) × (Room p status.now operands.now) }
         ensures { First (EntryShows K.Operand.operations self.now.code.now self.now.masks.grants.now (table_of K.Operand.operations status.now operands.now) p) result }
     {
-        if status[p as usize] % 2 == 1 {
+        if Status(status[p as usize]).has_entry() {
             self.address_breach(entry_at(operands, status, p)?, p)
         } else {
             None

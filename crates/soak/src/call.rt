@@ -1,7 +1,7 @@
 // Calls without a pattern.
 use bench::Call;
 use effects::selector;
-use engine::{LONGEST_RUN, Machine};
+use engine::{LONGEST_RUN, Lines, Machine};
 use instructions::Side;
 use numbers::Numbers;
 
@@ -40,10 +40,10 @@ fn some_length(numbers: &mut Numbers) -> usize {
 pub(crate) fn some_call(numbers: &mut Numbers, machine: &Machine) -> Call {
     match numbers.next_number() % 3 {
         0 => some_drive(numbers, machine),
-        1 => Call::Cycle {
+        1 => Call::Cycle(Lines {
             reset: numbers.next_number() % 50 == 0,
             halt: numbers.next_number() % 20 == 0,
-        },
+        }),
         _ => Call::Run {
             cycles: some_length(numbers),
         },

@@ -5,7 +5,7 @@ use crate::subject::Subject;
 use crate::tally::Tally;
 use crate::twin::Twin;
 use bench::Call;
-use engine::{EngineFault, LONGEST_RUN, Machine};
+use engine::{EngineFault, LONGEST_RUN, Lines, Machine};
 use instructions::Side;
 use numbers::Numbers;
 
@@ -68,10 +68,10 @@ impl Player {
         }
     }
 
-    fn cycle(&mut self, code: &[u8], reset: bool, halt: bool) -> Option<Difference> {
+    fn cycle(&mut self, code: &[u8], lines: Lines) -> Option<Difference> {
         self.tally.cycles = self.tally.cycles.saturating_add(1);
         self.machine
-            .cycle(code, &mut self.left.bank, &mut self.right.bank, reset, halt)
+            .cycle(code, &mut self.left.bank, &mut self.right.bank, lines)
             .err()
             .map(Difference::Refused)
     }
@@ -98,7 +98,7 @@ impl Player {
                 self.drive(side, port, value);
                 None
             }
-            Call::Cycle { reset, halt } => self.cycle(code, reset, halt),
+            Call::Cycle(lines) => self.cycle(code, lines),
             Call::Run { cycles } => self.run(code, cycles),
             // what the machine and the banks hold is compared after every call
             Call::State => None,

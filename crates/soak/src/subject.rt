@@ -1,6 +1,7 @@
 // An accepted image.
 use crate::difference::Difference;
 use engine::Machine;
+use flow::Status;
 use image::{Image, mask};
 use instructions::Side;
 use marks::Marks;
@@ -70,7 +71,9 @@ impl<'a> Subject<'a> {
     }
 
     fn reaches(&self, pc: usize) -> bool {
-        self.status.get(pc).is_some_and(|status| *status % 2 == 1)
+        self.status
+            .get(pc)
+            .is_some_and(|status| Status(*status).has_entry())
     }
 
     fn register_difference(&self, machine: &Machine) -> Option<Difference> {

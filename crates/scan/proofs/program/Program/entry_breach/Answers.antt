@@ -1,5 +1,4 @@
-use Rattle.std.proofs.Common.{length, refl, arith}
-use Rattle.std.proofs.lemmas.Bool.{eq-eqb}
+use Rattle.std.proofs.Common.{sym, ◌∙◌, length, refl, arith}
 use denote.Memory.{lone}
 use Rattle.flow.specs.Tables.{holds, table_of}
 use Rattle.flow.specs.Breaches.{Occurs}
@@ -27,6 +26,6 @@ returns-in_ok-entry_at g c =
     let held = c.in_ok-entry_at.field-0 in
     let found = c.address_breach.result in
     first_same (Occurs o code grants (holds o t p) p) (EntryShows o code grants t p) found
-    (λ k w. (eq-eqb _ 1 c.if-status-p-eq1.true, w))
+    (λ k w. (sym c.has_entry.ensures ∙ c.if-has_entry.true, w))
     (λ k w. w.1)
     (first_entered o g.K.Operand.lawful code grants status operands p held found (c.in_ok-entry_at.ensures.entry held refl).1 c.address_breach.ensures)
