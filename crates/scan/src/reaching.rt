@@ -1,7 +1,7 @@
 // What the words show that run at an address.
 ghost use Rattle.std.specs.Prelude.{◌≡◌, ◌<◌};
 ghost use Rattle.words.specs.Code.{words_in};
-ghost use Rattle.flow.specs.Breaches.{order, Occurs};
+ghost use Rattle.flow.specs.Breaches.{Occurs};
 ghost use Rattle.flow.specs.Entries.{allows};
 ghost use Rattle.scan.specs.Signs.{earlier as earlier_of, WordShows, HereShows};
 ghost use Rattle.scan.specs.Verdicts.{First};
@@ -12,20 +12,13 @@ use flow::{Breach, Entry, first_target, instruction_at, is_xec, reaches, target_
 use instructions::Instruction;
 use operands::{Operand, Spreading};
 
-fn place(breach: Breach) -> u8
-    ensures { result ≡ order breach }
-{
-    breach as u8
-}
-
 // The one that is told first.
 fn earlier(x: Option<Breach>, y: Option<Breach>) -> Option<Breach>
     ensures { result ≡ earlier_of x y }
 {
     match (x, y) {
-        (None, _) => y,
-        (_, None) => x,
-        (Some(a), Some(b)) => { if place(b) < place(a) { y } else { x } }
+        (Some(a), Some(b)) => Some(a.min(b)),
+        _ => x.or(y),
     }
 }
 
