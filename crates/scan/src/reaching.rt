@@ -7,7 +7,7 @@ ghost use Rattle.scan.specs.Signs.{earlier as earlier_of, WordShows, HereShows};
 ghost use Rattle.scan.specs.Verdicts.{First};
 
 use crate::program::Program;
-use crate::running::uses_unready;
+use crate::running::{lacks, uses_unready};
 use flow::{Breach, Entry, first_target, instruction_at, is_xec, reaches, target_count};
 use instructions::Instruction;
 use operands::{Operand, Spreading};
@@ -34,7 +34,7 @@ impl Program<'_> {
     fn word_breach<K: Spreading>(&self, entry: Entry<K>, p: u16, a: u16) -> Option<Breach>
         ensures { First (WordShows K.Operand.operations self.now.code.now self.now.masks.grants.now (allows K.Operand.operations entry) p a) result }
     {
-        if self.lacks(a) {
+        if lacks(self.code, a) {
             return Some(Breach::Outside);
         }
         let Some(instruction) = instruction_at(self.code, a) else {
