@@ -57,10 +57,10 @@ impl Program<'_> {
             Some(Breach::Outside)
         } else if uses_unready(instruction, entry) {
             Some(Breach::Unready)
-        } else if self.masks.exceeded(cover(instruction), entry) {
-            Some(Breach::Withheld)
         } else {
-            None
+            self.masks
+                .exceeded(cover(instruction), entry)
+                .then_some(Breach::Withheld)
         }
     }
 }
