@@ -3,7 +3,7 @@
 --                          each port of the left one holds b
 --   ran w st               machine and banks after the word w
 --   WorkedExamples         the examples; words are written in decimal, with their hexadecimal form beside them
-use Rattle.std.specs.Prelude.{◌≡◌, ℕ, true, List, [], ◌∷◌, replicate, Some, None}
+use Rattle.std.specs.Prelude.{◌≡◌, ℕ, true, List, ◌∷◌, replicate, Some, None}
 use Rattle.instructions.specs.declared.field.Side.TheVariants.{Left}
 use Rattle.instructions.specs.declared.register.Register.TheVariants.{R2, R7, R10}
 use Rattle.instructions.specs.declared.instruction.Destination.TheVariants as destination

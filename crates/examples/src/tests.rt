@@ -68,9 +68,15 @@ fn xec_keeps_program_counter_and_overflow(rt: HostRuntime) {
 fn reset_keeps_registers_and_selects(rt: HostRuntime) {
     let mut bench = Bench::holding(7, 9, 0);
     bench.machine.pc = 300;
-    let answer = bench
-        .machine
-        .cycle(&[], &mut bench.left, &mut bench.right, Lines { reset: true, halt: true });
+    let answer = bench.machine.cycle(
+        &[],
+        &mut bench.left,
+        &mut bench.right,
+        Lines {
+            reset: true,
+            halt: true,
+        },
+    );
     assert_eq!(rt; answer, Ok(()));
     assert_eq!(rt; bench.machine.pc, 0);
     let registers = bench.machine.registers;
@@ -83,9 +89,15 @@ fn reset_keeps_registers_and_selects(rt: HostRuntime) {
 #[test]
 fn halt_runs_no_word(rt: HostRuntime) {
     let mut bench = Bench::holding(0, 0, 0);
-    let answer = bench
-        .machine
-        .cycle(&[], &mut bench.left, &mut bench.right, Lines { reset: false, halt: true });
+    let answer = bench.machine.cycle(
+        &[],
+        &mut bench.left,
+        &mut bench.right,
+        Lines {
+            reset: false,
+            halt: true,
+        },
+    );
     assert_eq!(rt; answer, Ok(()));
 }
 

@@ -1,5 +1,5 @@
-// What a table can show to be wrong with a program.
-#[derive(Clone, Copy, PartialEq, Eq, Debug)]
+// What a table can show to be wrong with a program, in the order in which it is told.
+#[derive(Clone, Copy, PartialEq, Eq, PartialOrd, Ord, Debug)]
 pub enum Breach {
     // a word that runs is not permitted
     NotPermitted,

@@ -1,5 +1,4 @@
 pub mod Closures
 pub mod Sizes
 pub mod Shown
-pub mod Granting
 pub mod Larger

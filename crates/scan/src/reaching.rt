@@ -1,31 +1,24 @@
 // What the words show that run at an address.
 ghost use Rattle.std.specs.Prelude.{◌≡◌, ◌<◌};
 ghost use Rattle.words.specs.Code.{words_in};
-ghost use Rattle.flow.specs.Breaches.{order, Occurs};
+ghost use Rattle.flow.specs.Breaches.{Occurs};
 ghost use Rattle.flow.specs.Entries.{allows};
 ghost use Rattle.scan.specs.Signs.{earlier as earlier_of, WordShows, HereShows};
 ghost use Rattle.scan.specs.Verdicts.{First};
 
 use crate::program::Program;
-use crate::running::uses_unready;
+use crate::running::{lacks, uses_unready};
 use flow::{Breach, Entry, first_target, instruction_at, is_xec, reaches, target_count};
 use instructions::Instruction;
 use operands::{Operand, Spreading};
-
-fn place(breach: Breach) -> u8
-    ensures { result ≡ order breach }
-{
-    breach as u8
-}
 
 // The one that is told first.
 fn earlier(x: Option<Breach>, y: Option<Breach>) -> Option<Breach>
     ensures { result ≡ earlier_of x y }
 {
     match (x, y) {
-        (None, _) => y,
-        (_, None) => x,
-        (Some(a), Some(b)) => { if place(b) < place(a) { y } else { x } }
+        (Some(a), Some(b)) => Some(a.min(b)),
+        _ => x.or(y),
     }
 }
 
@@ -41,7 +34,7 @@ impl Program<'_> {
     fn word_breach<K: Spreading>(&self, entry: Entry<K>, p: u16, a: u16) -> Option<Breach>
         ensures { First (WordShows K.Operand.operations self.now.code.now self.now.masks.grants.now (allows K.Operand.operations entry) p a) result }
     {
-        if self.lacks(a) {
+        if lacks(self.code, a) {
             return Some(Breach::Outside);
         }
         let Some(instruction) = instruction_at(self.code, a) else {

@@ -21,19 +21,19 @@ pub(crate) fn uses_unready<K: Operand>(instruction: Instruction, entry: Entry<K>
     (entry.left && uses(instruction, Side::Left)) || (entry.right && uses(instruction, Side::Right))
 }
 
-impl Program<'_> {
-    // Whether an address is outside the image.
-    pub fn lacks(&self, address: u16) -> bool
-        ensures { Decides result (words_in self.now.code.now ≤ address) }
-    {
-        address as usize >= word_count(self.code)
-    }
+// Whether an address is outside the image.
+pub(crate) fn lacks(code: &[u8], address: u16) -> bool
+    ensures { Decides result (words_in code.now ≤ address) }
+{
+    address as usize >= word_count(code)
+}
 
+impl Program<'_> {
     fn lacks_some(&self, address: Option<u16>) -> bool
         ensures { Decides result ((q : ℕ) × ((address ≡ Some q) × (words_in self.now.code.now ≤ q))) }
     {
-        let n = word_count(self.code);
-        address.is_some_and(|q| q as usize >= n)
+        let code = self.code;
+        address.is_some_and(|q| lacks(code, q))
     }
 
     // Whether the instruction, run at `p`, may go on outside the image.
@@ -57,10 +57,10 @@ impl Program<'_> {
             Some(Breach::Outside)
         } else if uses_unready(instruction, entry) {
             Some(Breach::Unready)
-        } else if self.masks.exceeded(cover(instruction), entry) {
-            Some(Breach::Withheld)
         } else {
-            None
+            self.masks
+                .exceeded(cover(instruction), entry)
+                .then_some(Breach::Withheld)
         }
     }
 }

@@ -16,20 +16,16 @@ impl Masks<'_> {
         ensures { Decides result ((k : ℕ) × (K.Operand.operations.has selecting k × (bit_and bits (mask_of self.now.grants.now side k) ≢ bits))) }
     {
         // over 0..=255u8 the check of the largest image takes a twentieth longer
-        for port in 0..256usize {
-            if selecting.contains(port as u8) {
-                if bits & self.granted(side, port) != bits {
-                    return true;
-                }
-            }
-        }
-        false
+        (0..256usize).any(|port| {
+            selecting.contains(port as u8) && bits & self.granted(side, port) != bits
+        })
     }
 
     // Whether what is covered goes beyond the grants.
     pub fn exceeded<K: Operand>(&self, covered: Option<(Side, u8)>, entry: Entry<K>) -> bool
         ensures { Decides result (Exceeds self.now.grants.now covered (allows K.Operand.operations entry)) }
     {
+        // a match, since the closure of is_some_and would need a contract that repeats this one
         match covered {
             None => false,
             Some((side, bits)) => self.withhold(

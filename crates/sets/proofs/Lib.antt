@@ -9,5 +9,5 @@ mod Turns
 mod Flips
 mod Mixes
 mod Parts
-mod Sums
+pub mod Sums
 mod Words

@@ -7,5 +7,4 @@ mod operand;
 mod rows;
 mod set;
 
-pub use operand::zero_or_one_plus_one;
 pub use set::Set;

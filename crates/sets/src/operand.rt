@@ -5,7 +5,7 @@ ghost use Rattle.operands.specs.Bytes.Two.{carry as carry_of};
 ghost use Rattle.operands.specs.Exact.{exact_twos};
 ghost use Rattle.sets.specs.Numbers.{number};
 ghost use Rattle.sets.specs.Steps.{op_of};
-ghost use Rattle.sets.specs.Sets.{set_has, set_rank, set_joined, set_operations, set_lawful, set_joined_least, OneOrTwo};
+ghost use Rattle.sets.specs.Sets.{set_has, set_rank, set_joined, set_operations, set_lawful, set_joined_least};
 ghost use Rattle.std.proofs.lemmas.Nat.{ones-le};
 
 use crate::bitset::Bits;
@@ -95,11 +95,4 @@ impl Spreading for Set {
 
 impl LeastJoin for Set {
     ghost least = { set_joined_least };
-}
-
-// 0 or 1, plus 1, is 1 or 2.
-pub fn zero_or_one_plus_one() -> Set
-    ensures { Same (set_has result) OneOrTwo }
-{
-    operands::zero_or_one_plus_one()
 }
