@@ -20,13 +20,22 @@ fn clear(status: &mut [u8], n: usize)
     status[..n].fill(0);
 }
 
+// The lowest of these words that is due.
+fn first_due(status: &[u8]) -> Option<usize>
+    ensures { MatchOption result (Quiet status.now (length status.now)) (λ p. (p < length status.now) × (8 ≤ slice_index status.now p) × Quiet status.now p) }
+{
+    status.iter().position(|byte| is_due(*byte))
+}
+
 // The lowest word that is due; none is due below `low`.
 fn lowest(status: &[u8], low: usize, n: usize) -> Option<usize>
     requires bytes { n ≤ length status.now }
     requires quiet { Quiet status.now low }
     ensures { MatchOption result (Quiet status.now n) (λ p. (p < n) × (8 ≤ slice_index status.now p) × Quiet status.now p) }
 {
-    (low..n).find(|p| is_due(status[*p]))
+    let left = status.get(low..n)?;
+    let found = first_due(left)?;
+    Some(low + found)
 }
 
 // How many words have an entry.
