@@ -39,9 +39,9 @@ fn is_new(mark: bool, had: bool) -> bool
 }
 
 // Sends an entry to the word q.
-pub(crate) fn send<K: Spreading>(operands: &mut [K], status: &mut [u8], q: usize, new: Entry<K>)
+pub(crate) fn send<K: Spreading>(operands: &mut [K], status: &mut [u8], q: usize, new: &Entry<K>)
     requires { Room (q + 1) status.old operands.old }
-    ensures { Flowed K.Operand.operations K.Spreading.joined K.Spreading.rank K.Spreading.MAX_RANK q new status.old operands.old status.new operands.new }
+    ensures { Flowed K.Operand.operations K.Spreading.joined K.Spreading.rank K.Spreading.MAX_RANK q new.now status.old operands.old status.new operands.new }
 {
     let old = Status(status[q]);
     let bare = !old.has_entry();
@@ -63,11 +63,11 @@ pub(crate) fn send_on<K: Spreading>(
     operands: &mut [K],
     status: &mut [u8],
     target: Option<u16>,
-    new: Entry<K>,
+    new: &Entry<K>,
     low: usize,
 ) -> usize
     requires { Room n status.old operands.old }
-    ensures { Sent K.Operand.operations K.Spreading.joined K.Spreading.rank K.Spreading.MAX_RANK n low target new status.old operands.old result status.new operands.new }
+    ensures { Sent K.Operand.operations K.Spreading.joined K.Spreading.rank K.Spreading.MAX_RANK n low target new.now status.old operands.old result status.new operands.new }
 {
     if let Some(q) = target {
         let q = q as usize;

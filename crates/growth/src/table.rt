@@ -7,7 +7,7 @@ ghost use Rattle.growth.specs.Growth.{Grown, Lacks};
 use crate::due::is_due;
 use crate::send::send;
 use crate::step::step;
-use flow::{Status, start_entry};
+use flow::{Entry, Status};
 use operands::{Operand, Spreading};
 use words::word_count;
 
@@ -56,7 +56,7 @@ fn fill<K: Spreading>(code: &[u8], operands: &mut [K], status: &mut [u8])
 {
     let n = word_count(code);
     clear(status, n);
-    send(operands, status, 0, start_entry());
+    send(operands, status, 0, &Entry::start());
     let mut low = 0;
     while let Some(p) = lowest(status, low, n) {
         low = step(code, operands, status, p as u16);

@@ -6,7 +6,7 @@ ghost use Rattle.flow.specs.Entries.{allows};
 
 use crate::masks::Masks;
 use effects::selector;
-use flow::{Entry, register_operand};
+use flow::Entry;
 use instructions::Side;
 use operands::Operand;
 
@@ -32,11 +32,7 @@ impl Masks<'_> {
     {
         match covered {
             None => false,
-            Some((side, bits)) => self.withhold(
-                side,
-                bits,
-                register_operand(selector(side), entry),
-            ),
+            Some((side, bits)) => self.withhold(side, bits, entry.operand(selector(side))),
         }
     }
 }

@@ -11,7 +11,7 @@ returns-in-Some g c =
     let o = g.K.Operand.operations in
     let grants = c.args.self.now.grants.now in
     let s = allows o c.args.entry in
-    let x = c.register_operand.result in
-    let same = subst (λ r. Same (o.has x) (s (number_of r))) c.selector.ensures c.register_operand.ensures in
+    let x = c.operand.result in
+    let same = subst (λ r. Same (o.has x) (s (number_of r))) c.selector.ensures c.operand.ensures in
     let d = exceeds_by o g.K.Operand.lawful grants s c.in-Some.side c.in-Some.bits x c.withhold.result same c.withhold.ensures in
     subst (λ (z : Cover). Decides c.withhold.result (Exceeds grants z s)) (sym c.in-Some.is) d
