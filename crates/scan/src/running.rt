@@ -40,8 +40,7 @@ impl Program<'_> {
     fn strays<K: Spreading>(&self, instruction: Instruction, entry: Entry<K>, p: u16) -> bool
         ensures { Decides result (Strays K.Operand.operations (words_in self.now.code.now) (allows K.Operand.operations entry) p instruction) }
     {
-        self.lacks_some(entry.onward(instruction, p))
-            || self.lacks_some(entry.jump(instruction, p))
+        self.lacks_some(entry.onward(instruction, p)) || self.lacks_some(entry.jump(instruction, p))
     }
 
     // The first breach that the instruction shows, run at `p`.
