@@ -38,7 +38,8 @@ fn is_new(mark: bool, had: bool) -> bool
     mark && !had
 }
 
-// Sends an entry to the word q.
+// Sends an entry to the word q. Here and in what calls it the operands and the status bytes are lent as two slices: in a struct with
+// methods, each contract would have to say as well that both loans and both lengths stay.
 pub(crate) fn send<K: Spreading>(operands: &mut [K], status: &mut [u8], q: usize, new: &Entry<K>)
     requires { Room (q + 1) status.old operands.old }
     ensures { Flowed K.Operand.operations K.Spreading.joined K.Spreading.rank K.Spreading.MAX_RANK q new.now status.old operands.old status.new operands.new }

@@ -1,6 +1,7 @@
 // The growth: from the entry of the start, each word that is due is sent on, the lowest first, until none is.
-ghost use Rattle.std.specs.Prelude.{◌≡◌, ℕ, ◌<◌, ◌≤◌, length, Some, None, slice_index, MatchOption};
+ghost use Rattle.std.specs.Prelude.{◌≡◌, ℕ, ◌<◌, ◌≤◌, length, Some, None, slice_index, MatchOption, count_by};
 ghost use Rattle.words.specs.Code.{words_in};
+ghost use Rattle.flow.specs.Tables.{has_entry};
 ghost use Rattle.growth.specs.Memory.{Room, Quiet, entries_in};
 ghost use Rattle.growth.specs.Growth.{Grown, Lacks};
 
@@ -11,7 +12,8 @@ use flow::{Entry, Status};
 use operands::{Operand, Spreading};
 use words::word_count;
 
-// No word has an entry.
+// No word has an entry. Here and in `lowest` the status bytes are lent whole, with n beside them, since all that is said of the
+// growth is said of the whole memory: over a part, each call would have to be carried back to it.
 fn clear(status: &mut [u8], n: usize)
     requires { n ≤ length status.old }
     ensures zero { (k : ℕ) → k < n → slice_index status.new k ≡ 0 }
@@ -38,12 +40,11 @@ fn lowest(status: &[u8], low: usize, n: usize) -> Option<usize>
     Some(low + found)
 }
 
-// How many words have an entry.
-fn count_entries(status: &[u8], n: usize) -> usize
-    requires { n ≤ length status.now }
-    ensures { result ≡ entries_in status.now n }
+// How many of these words have an entry.
+fn count_entries(status: &[u8]) -> usize
+    ensures { result ≡ count_by has_entry status.now }
 {
-    status[..n]
+    status
         .iter()
         .filter(|byte| Status(**byte).has_entry())
         .count()
@@ -74,5 +75,5 @@ pub fn grow<K: Spreading>(code: &[u8], operands: &mut [K], status: &mut [u8]) ->
         return None;
     }
     fill(code, operands, status);
-    Some(count_entries(status, n))
+    Some(count_entries(&status[..n]))
 }
