@@ -11,11 +11,8 @@ mod status;
 mod targets;
 mod ways;
 
-pub use after::{after_instruction, start_entry};
 pub use breach::Breach;
 pub use entry::Entry;
 pub use memory::entry_at;
-pub use sources::{register_operand, source_operand};
 pub use status::Status;
-pub use targets::{first_target, instruction_at, is_xec, reaches, target_count};
-pub use ways::{jump, onward};
+pub use targets::{first_target, instruction_at, is_xec, target_count};

@@ -14,14 +14,9 @@ pub fn entry_at<K: Operand>(operands: &[K], status: &[u8], address: u16) -> Opti
 {
     let word = address as usize;
     let status = Status(*status.get(word)?);
-    let held = operands.get(16 * word..)?.first_chunk::<16>()?;
-    // one by one: where they are copied whole, LLVM copies them once more for each target of an XEC
-    let mut copied = [held[0]; 16];
-    for (register, operand) in held.iter().enumerate() {
-        copied[register] = *operand;
-    }
+    let operands = operands.get(16 * word..)?.first_chunk::<16>()?;
     Some(Entry {
-        operands: copied,
+        operands: *operands,
         left: status.may_be_unready(Side::Left),
         right: status.may_be_unready(Side::Right),
     })

@@ -8,7 +8,6 @@ ghost use Rattle.flow.specs.Spans.{first_target, target_count, Hits};
 ghost use Rattle.flow.specs.Entries.{allows};
 
 use crate::entry::Entry;
-use crate::sources::source_operand;
 use effects::page_size;
 use instructions::{Instruction, Source};
 use operands::{Operand, Spreading};
@@ -77,29 +76,26 @@ fn executes<K: Operand>(source: Source, x: K, offset: u8, from: u16, to: u16) ->
     }
 }
 
-// Whether an instruction at `from` may make the word at `to` run: itself, or a target of an XEC.
-fn leads<K: Spreading>(instruction: Instruction, entry: Entry<K>, from: u16, to: u16) -> bool
-    ensures { Decides result (Reaches K.Operand.operations (allows K.Operand.operations entry) from instruction to) }
-{
-    match instruction {
-        Instruction::Xec { source, offset } => {
-            executes(source, source_operand(source, entry), offset, from, to)
+impl<K: Spreading> Entry<K> {
+    // Whether an instruction at `from` may make the word at `to` run: itself, or a target of an XEC.
+    fn leads(&self, instruction: Instruction, from: u16, to: u16) -> bool
+        ensures { Decides result (Reaches K.Operand.operations (allows K.Operand.operations self.now) from instruction to) }
+    {
+        match instruction {
+            Instruction::Xec { source, offset } => {
+                executes(source, self.source(source), offset, from, to)
+            }
+            _ => to == from,
         }
-        _ => to == from,
     }
-}
 
-// Whether the word at `to` may run while the program counter is `from`, where `instruction` stands.
-pub fn reaches<K: Spreading>(
-    instruction: Option<Instruction>,
-    entry: Entry<K>,
-    from: u16,
-    to: u16,
-) -> bool
-    ensures { Decides result (ReachesBy K.Operand.operations (allows K.Operand.operations entry) from instruction to) }
-{
-    match instruction {
-        Some(instruction) => leads(instruction, entry, from, to),
-        None => to == from,
+    // Whether the word at `to` may run while the program counter is `from`, where `instruction` stands.
+    pub fn reaches(&self, instruction: Option<Instruction>, from: u16, to: u16) -> bool
+        ensures { Decides result (ReachesBy K.Operand.operations (allows K.Operand.operations self.now) from instruction to) }
+    {
+        match instruction {
+            Some(instruction) => self.leads(instruction, from, to),
+            None => to == from,
+        }
     }
 }

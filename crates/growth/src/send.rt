@@ -38,10 +38,11 @@ fn is_new(mark: bool, had: bool) -> bool
     mark && !had
 }
 
-// Sends an entry to the word q.
-pub(crate) fn send<K: Spreading>(operands: &mut [K], status: &mut [u8], q: usize, new: Entry<K>)
+// Sends an entry to the word q. Here and in what calls it the operands and the status bytes are lent as two slices: in a struct with
+// methods, each contract would have to say as well that both loans and both lengths stay.
+pub(crate) fn send<K: Spreading>(operands: &mut [K], status: &mut [u8], q: usize, new: &Entry<K>)
     requires { Room (q + 1) status.old operands.old }
-    ensures { Flowed K.Operand.operations K.Spreading.joined K.Spreading.rank K.Spreading.MAX_RANK q new status.old operands.old status.new operands.new }
+    ensures { Flowed K.Operand.operations K.Spreading.joined K.Spreading.rank K.Spreading.MAX_RANK q new.now status.old operands.old status.new operands.new }
 {
     let old = Status(status[q]);
     let bare = !old.has_entry();
@@ -63,11 +64,11 @@ pub(crate) fn send_on<K: Spreading>(
     operands: &mut [K],
     status: &mut [u8],
     target: Option<u16>,
-    new: Entry<K>,
+    new: &Entry<K>,
     low: usize,
 ) -> usize
     requires { Room n status.old operands.old }
-    ensures { Sent K.Operand.operations K.Spreading.joined K.Spreading.rank K.Spreading.MAX_RANK n low target new status.old operands.old result status.new operands.new }
+    ensures { Sent K.Operand.operations K.Spreading.joined K.Spreading.rank K.Spreading.MAX_RANK n low target new.now status.old operands.old result status.new operands.new }
 {
     if let Some(q) = target {
         let q = q as usize;

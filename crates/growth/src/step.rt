@@ -8,10 +8,7 @@ ghost use Rattle.growth.specs.Memory.{Room, Quiet, Kept};
 ghost use Rattle.growth.specs.Growth.{RunsAs, Went, Growing};
 
 use crate::send::send_on;
-use flow::{
-    Entry, after_instruction, entry_at, first_target, instruction_at, is_xec, jump, onward,
-    reaches, target_count,
-};
+use flow::{Entry, entry_at, first_target, instruction_at, is_xec, target_count};
 use instructions::Instruction;
 use operands::{Operand, Spreading};
 use words::word_count;
@@ -20,14 +17,14 @@ use words::word_count;
 fn runs_at<K: Spreading>(
     code: &[u8],
     here: Option<Instruction>,
-    entry: Entry<K>,
+    entry: &Entry<K>,
     p: u16,
     a: u16,
 ) -> Option<Instruction>
     requires { here ≡ instruction_at code.now p }
-    ensures { (i : Instruction) → (result ≡ Some i → RunsAs K.Operand.operations code.now (allows K.Operand.operations entry) p a i) × (RunsAs K.Operand.operations code.now (allows K.Operand.operations entry) p a i → result ≡ Some i) }
+    ensures { (i : Instruction) → (result ≡ Some i → RunsAs K.Operand.operations code.now (allows K.Operand.operations entry.now) p a i) × (RunsAs K.Operand.operations code.now (allows K.Operand.operations entry.now) p a i → result ≡ Some i) }
 {
-    if !reaches(here, entry, p, a) {
+    if !entry.reaches(here, p, a) {
         return None;
     }
     instruction_at(code, a).filter(|instruction| !is_xec(*instruction))
@@ -40,15 +37,15 @@ fn pass<K: Spreading>(
     status: &mut [u8],
     p: u16,
     instruction: Instruction,
-    entry: Entry<K>,
+    entry: &Entry<K>,
     low: usize,
 ) -> usize
     requires { Room n status.old operands.old }
-    ensures { Went K.Operand.operations K.Spreading.joined K.Spreading.rank K.Spreading.MAX_RANK n p low instruction entry status.old operands.old result status.new operands.new }
+    ensures { Went K.Operand.operations K.Spreading.joined K.Spreading.rank K.Spreading.MAX_RANK n p low instruction entry.now status.old operands.old result status.new operands.new }
 {
-    let new = after_instruction(instruction, entry);
-    let low = send_on(n, operands, status, onward(instruction, entry, p), new, low);
-    send_on(n, operands, status, jump(instruction, entry, p), new, low)
+    let new = entry.after(instruction);
+    let low = send_on(n, operands, status, entry.onward(instruction, p), &new, low);
+    send_on(n, operands, status, entry.jump(instruction, p), &new, low)
 }
 
 // Takes up the word p, which is due and the lowest that is, and sends on every word that runs there. No word below the
@@ -78,8 +75,8 @@ pub(crate) fn step<K: Spreading>(
     let n = word_count(code);
     let mut low = p as usize;
     for a in first..first + target_count(here) {
-        if let Some(instruction) = runs_at(code, here, saved, p, a) {
-            low = pass(n, operands, status, p, instruction, saved, low);
+        if let Some(instruction) = runs_at(code, here, &saved, p, a) {
+            low = pass(n, operands, status, p, instruction, &saved, low);
         }
     }
     low

@@ -1,17 +1,19 @@
 // The growth: from the entry of the start, each word that is due is sent on, the lowest first, until none is.
-ghost use Rattle.std.specs.Prelude.{◌≡◌, ℕ, ◌<◌, ◌≤◌, length, Some, None, slice_index, MatchOption};
+ghost use Rattle.std.specs.Prelude.{◌≡◌, ℕ, ◌<◌, ◌≤◌, length, Some, None, slice_index, MatchOption, count_by};
 ghost use Rattle.words.specs.Code.{words_in};
+ghost use Rattle.flow.specs.Tables.{has_entry};
 ghost use Rattle.growth.specs.Memory.{Room, Quiet, entries_in};
 ghost use Rattle.growth.specs.Growth.{Grown, Lacks};
 
 use crate::due::is_due;
 use crate::send::send;
 use crate::step::step;
-use flow::{Status, start_entry};
+use flow::{Entry, Status};
 use operands::{Operand, Spreading};
 use words::word_count;
 
-// No word has an entry.
+// No word has an entry. Here and in `lowest` the status bytes are lent whole, with n beside them, since all that is said of the
+// growth is said of the whole memory: over a part, each call would have to be carried back to it.
 fn clear(status: &mut [u8], n: usize)
     requires { n ≤ length status.old }
     ensures zero { (k : ℕ) → k < n → slice_index status.new k ≡ 0 }
@@ -20,21 +22,29 @@ fn clear(status: &mut [u8], n: usize)
     status[..n].fill(0);
 }
 
+// The lowest of these words that is due.
+fn first_due(status: &[u8]) -> Option<usize>
+    ensures { MatchOption result (Quiet status.now (length status.now)) (λ p. (p < length status.now) × (8 ≤ slice_index status.now p) × Quiet status.now p) }
+{
+    status.iter().position(|byte| is_due(*byte))
+}
+
 // The lowest word that is due; none is due below `low`.
 fn lowest(status: &[u8], low: usize, n: usize) -> Option<usize>
     requires bytes { n ≤ length status.now }
     requires quiet { Quiet status.now low }
     ensures { MatchOption result (Quiet status.now n) (λ p. (p < n) × (8 ≤ slice_index status.now p) × Quiet status.now p) }
 {
-    (low..n).find(|p| is_due(status[*p]))
+    let left = status.get(low..n)?;
+    let found = first_due(left)?;
+    Some(low + found)
 }
 
-// How many words have an entry.
-fn count_entries(status: &[u8], n: usize) -> usize
-    requires { n ≤ length status.now }
-    ensures { result ≡ entries_in status.now n }
+// How many of these words have an entry.
+fn count_entries(status: &[u8]) -> usize
+    ensures { result ≡ count_by has_entry status.now }
 {
-    status[..n]
+    status
         .iter()
         .filter(|byte| Status(**byte).has_entry())
         .count()
@@ -47,7 +57,7 @@ fn fill<K: Spreading>(code: &[u8], operands: &mut [K], status: &mut [u8])
 {
     let n = word_count(code);
     clear(status, n);
-    send(operands, status, 0, start_entry());
+    send(operands, status, 0, &Entry::start());
     let mut low = 0;
     while let Some(p) = lowest(status, low, n) {
         low = step(code, operands, status, p as u16);
@@ -65,5 +75,5 @@ pub fn grow<K: Spreading>(code: &[u8], operands: &mut [K], status: &mut [u8]) ->
         return None;
     }
     fill(code, operands, status);
-    Some(count_entries(status, n))
+    Some(count_entries(&status[..n]))
 }

@@ -8,7 +8,7 @@ ghost use Rattle.scan.specs.Verdicts.{First};
 
 use crate::program::Program;
 use crate::running::{lacks, uses_unready};
-use flow::{Breach, Entry, first_target, instruction_at, is_xec, reaches, target_count};
+use flow::{Breach, Entry, first_target, instruction_at, is_xec, target_count};
 use instructions::Instruction;
 use operands::{Operand, Spreading};
 
@@ -56,7 +56,7 @@ impl Program<'_> {
         let end = first + target_count(here);
         let mut found = here_breach(here, held);
         for a in first..end {
-            if reaches(here, held, p, a) {
+            if held.reaches(here, p, a) {
                 found = earlier(found, self.word_breach(held, p, a));
             }
         }

@@ -9,7 +9,7 @@ ghost use Rattle.scan.specs.Verdicts.{First};
 use crate::covers::cover;
 use crate::program::Program;
 use effects::uses;
-use flow::{Breach, Entry, jump, onward};
+use flow::{Breach, Entry};
 use instructions::{Instruction, Side};
 use operands::{Operand, Spreading};
 use words::word_count;
@@ -40,8 +40,7 @@ impl Program<'_> {
     fn strays<K: Spreading>(&self, instruction: Instruction, entry: Entry<K>, p: u16) -> bool
         ensures { Decides result (Strays K.Operand.operations (words_in self.now.code.now) (allows K.Operand.operations entry) p instruction) }
     {
-        self.lacks_some(onward(instruction, entry, p))
-            || self.lacks_some(jump(instruction, entry, p))
+        self.lacks_some(entry.onward(instruction, p)) || self.lacks_some(entry.jump(instruction, p))
     }
 
     // The first breach that the instruction shows, run at `p`.

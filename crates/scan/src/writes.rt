@@ -6,7 +6,7 @@ ghost use Rattle.flow.specs.Entries.{allows};
 
 use crate::masks::Masks;
 use effects::selector;
-use flow::{Entry, register_operand};
+use flow::Entry;
 use instructions::Side;
 use operands::Operand;
 
@@ -28,11 +28,7 @@ impl Masks<'_> {
         // a match, since the closure of is_some_and would need a contract that repeats this one
         match covered {
             None => false,
-            Some((side, bits)) => self.withhold(
-                side,
-                bits,
-                register_operand(selector(side), entry),
-            ),
+            Some((side, bits)) => self.withhold(side, bits, entry.operand(selector(side))),
         }
     }
 }

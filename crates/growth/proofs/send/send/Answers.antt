@@ -12,7 +12,7 @@ part_length q operands h = length-take-le (16 * q + 16 - 16 * q) (drop (16 * q) 
 pub loop-r-preserved : goal.loop-r-preserved
 loop-r-preserved g c =
     let o = g.K.Operand.operations in
-    let new = c.args.new.operands in
+    let new = c.args.new.now.operands in
     let cells = c.loop-r.cells in
     let r = c.loop-r.r in
     let lt : r < length cells = omega (arith, c.loop-r.auto.cells, c.loop-r-test.true) in
@@ -38,9 +38,9 @@ returns-then-risen g c =
     let all : c.loop-r.r ≡ 16 = omega (arith, whole, c.loop-r-test.false) in
     let lt : q < length c.args.status.now = omega arith in
     partly_flowed g.K.Operand.operations g.K.Spreading.joined g.K.Spreading.rank g.K.Spreading.MAX_RANK g.met.K.Spreading.bounded
-    q c.args.new operands c.args.status.now _
+    q c.args.new.now operands c.args.status.now _
     _ _ 16 c.loop-r.risen c.due_status.result (cc) (cc) refl c.if-risen.true (cc)
-    (partly_part _ _ _ _ _ _ q _ c.loop-r.r c.args.new.operands operands c.loop-r.cells c.loop-r.risen n all (omega arith) (omega (arith, whole, c.loop-r.auto.cells)) c.loop-r.invariant) lt
+    (partly_part _ _ _ _ _ _ q _ c.loop-r.r c.args.new.now.operands operands c.loop-r.cells c.loop-r.risen n all (omega arith) (omega (arith, whole, c.loop-r.auto.cells)) c.loop-r.invariant) lt
 
 pub returns-else-risen : goal.returns-else-risen
 returns-else-risen g c =
@@ -50,6 +50,6 @@ returns-else-risen g c =
     let whole = part_length q operands (omega arith) in
     let all : c.loop-r.r ≡ 16 = omega (arith, whole, c.loop-r-test.false) in
     partly_still g.K.Operand.operations g.K.Spreading.joined g.K.Spreading.rank g.K.Spreading.MAX_RANK g.met.K.Spreading.bounded
-    q c.args.new operands c.args.status.now _
+    q c.args.new.now operands c.args.status.now _
     _ _ 16 c.loop-r.risen (cc) (cc) refl c.if-risen.false
-    (partly_part _ _ _ _ _ _ q _ c.loop-r.r c.args.new.operands operands c.loop-r.cells c.loop-r.risen n all (omega arith) (omega (arith, whole, c.loop-r.auto.cells)) c.loop-r.invariant)
+    (partly_part _ _ _ _ _ _ q _ c.loop-r.r c.args.new.now.operands operands c.loop-r.cells c.loop-r.risen n all (omega arith) (omega (arith, whole, c.loop-r.auto.cells)) c.loop-r.invariant)

@@ -2,7 +2,7 @@ use Rattle.std.proofs.Common.{refl}
 use Rattle.operands.specs.Bytes.One.{keep}
 use Rattle.effects.proofs.Bytes.{same_ones}
 use Rattle.flow.proofs.Storing.{start_alike}
-use Rattle.flow.proofs.after.start_entry.Goals as goal
+use Rattle.flow.proofs.entry.Entry.start.Goals as goal
 
 pub returns : goal.returns
 returns g c =

@@ -5,13 +5,13 @@ use Rattle.instructions.specs.Registers.{number_of}
 use Rattle.effects.specs.Usage.{select_side, is_side}
 use Rattle.flow.proofs.Parts.{number_below_16}
 use Rattle.flow.proofs.Storing.{stored_alike}
-use Rattle.flow.proofs.after.stored.Goals as goal
+use Rattle.flow.proofs.entry.Entry.stored.Goals as goal
 
 pub returns : goal.returns
 returns g c =
     let o = g.K.Operand.operations in
     let r = c.args.register in
-    let e = c.args.entry in
+    let e = c.args.self in
     let low = number_below_16 r in
     let few : number_of r < length e.operands = omega arith in
     stored_alike o e c.selected.result (number_of r) (select_side r) c.args.operand low few
