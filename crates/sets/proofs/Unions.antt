@@ -4,11 +4,14 @@ use lib.Bits.{bit_or, or_add_and, and_le_r}
 use Rattle.std.proofs.lemmas.Nat.{shl-shr, pow-add, pow_pos, pow_below, div_below}
 use Rattle.std.proofs.lemmas.Bool.{cases_eq, cases_order}
 use Rattle.std.proofs.lemmas.Bool.Decides.{Decides-eqb}
-use Rattle.operands.specs.Bytes.{Bytes, Only, Every, Same}
+use Rattle.operands.specs.Bytes.{Bytes, Only, Every, Same, Two, two}
+use Rattle.operands.specs.Exact.{exact_twos}
 use Rattle.operands.proofs.Rotations.{every_at}
 use Rattle.bits.specs.Bits.{bit}
 use Rattle.bits.proofs.Bits.{bit-or}
-use Rattle.sets.specs.Numbers.{In, in_below, in_highest}
+use Rattle.sets.specs.Numbers.{In, number, in_below, in_highest}
+use Rattle.sets.specs.Sets.{set_has}
+use Rattle.sets.specs.declared.set.Set.{Set}
 use Rattle.sets.specs.Steps.{Image}
 
 -- equal numbers have the same members
@@ -71,3 +74,10 @@ pub image_some : (f : ℕ → ℕ) (n m : ℕ) → 0 < n → n < 2 ^ 256 → Sam
 image_some f n m p h s =
     let a = in_highest 256 n p h in
     pos_from_in m (f a.0) (s.1 (f a.0) (a.0, (a.1, refl)))
+
+-- what is given from two sets that have members has members
+pub twos_some : (f : Two) (x y : Set) (m : ℕ) → Same (In m) (exact_twos f (set_has x) (set_has y)) → 0 < m
+twos_some f x y m s =
+    let a = in_highest 256 (number x.bits) x.some x.fits in
+    let b = in_highest 256 (number y.bits) y.some y.fits in
+    pos_from_in m (two f a.0 b.0) (s.1 (two f a.0 b.0) (a.0, b.0, (a.1, (b.1, refl))))
