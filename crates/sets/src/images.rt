@@ -7,7 +7,7 @@ ghost use Rattle.sets.specs.Numbers.{number, In};
 ghost use Rattle.sets.specs.Steps.{Image, GivesRows};
 
 use crate::bitset::Bits;
-use crate::rows::{Mix, mixed_row};
+use crate::rows::and_row;
 use operands::rotated_byte;
 
 // Each member rotated. All bytes are often met, and stay all bytes.
@@ -38,7 +38,7 @@ fn kept_bits(bits: u8) -> u8
 pub(crate) fn kept_members(bits: u8, xs: Bits) -> Bits
     ensures { Same (In (number result)) (Image (one (keep_bits bits)) (In (number xs))) }
 {
-    mixed_row(Mix::And, kept_bits(bits), xs)
+    and_row(kept_bits(bits), xs)
 }
 
 // What an operation gives from each member of `xs` and each of `ys`, by a row for each of `xs`.

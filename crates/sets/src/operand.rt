@@ -9,7 +9,7 @@ ghost use Rattle.std.proofs.lemmas.Nat.{ones-le};
 
 use crate::bitset::Bits;
 use crate::images::{combined, kept_members, rotated_members};
-use crate::rows::{Mix, mixed_row, sum_row};
+use crate::rows::{and_row, sum_row, xor_row};
 use crate::set::Set;
 use operands::{LeastJoin, Operand, Spreading, carry_byte};
 
@@ -48,11 +48,11 @@ impl Operand for Set {
     }
 
     fn and(self, other: Set) -> Set {
-        made(combined(|a, ys| mixed_row(Mix::And, a, ys), self.bits, other.bits))
+        made(combined(and_row, self.bits, other.bits))
     }
 
     fn xor(self, other: Set) -> Set {
-        made(combined(|a, ys| mixed_row(Mix::Xor, a, ys), self.bits, other.bits))
+        made(combined(xor_row, self.bits, other.bits))
     }
 
     fn add(self, other: Set) -> (Set, Set) {
