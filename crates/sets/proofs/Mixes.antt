@@ -7,9 +7,11 @@ use Rattle.bits.specs.Bits.{bit}
 use Rattle.sets.specs.Numbers.{In, in_below}
 use Rattle.sets.specs.Steps.{Image}
 use Rattle.sets.specs.Mixing.{without, folded_bit, clear_places}
-use Rattle.bits.proofs.Bits.{bit-and, bit_mod, bit-or, bit_past}
+use Rattle.std.proofs.lemmas.Nat.Bits.{bit_at_and, bit_at_or, bit_at_above}
+use Rattle.bits.proofs.Bits.{bit_mod}
 use Rattle.sets.proofs.Flips.{flip_clear, flip_set, bit_flip, flip_flip, flip_below, flip_high, bit-clear_places, and_without, flip_seventh}
-use Rattle.sets.proofs.Halves.{bit_low, bit_high, bit_shr, bit_shl_above, bit_shl_under}
+use Rattle.std.proofs.lemmas.Nat.Bits.{bit_at_cat_low}
+use Rattle.sets.proofs.Halves.{bit_high, bit_shr, bit_shl_above, bit_shl_under}
 use Rattle.sets.proofs.Turns.{wide, image_moved, bit_swapped}
 
 -- a word: s is the length of a block
@@ -19,8 +21,8 @@ module _ (w j s k : ℕ) (es : s ≡ 2 ^ j) (hj : j < 7) (hk : k < 128) where
 
   pub bit_folded : bit (bit_and (bit_or w (w / 2 ^ s)) (clear_places j)) k ≡ folded_bit (bit k j) (bit w k) (bit w (bit_xor (2 ^ j) k))
   bit_folded =
-      let a = bit-and (bit_or w (w / 2 ^ s)) (clear_places j) k in
-      let o = bit-or w (w / 2 ^ s) k in
+      let a = bit_at_and (bit_or w (w / 2 ^ s)) (clear_places j) k in
+      let o = bit_at_or w (w / 2 ^ s) k in
       let m = bit-clear_places j k hj hk in
       ⊎_elim (λ (e : bit k j ≡ 0). let d = down e in omega arith) (λ (n : bit k j ≡ 0 → ⊥). omega arith) (cases_eq (bit k j) 0)
 
@@ -40,7 +42,7 @@ module _ (w j s k : ℕ) (es : s ≡ 2 ^ j) (hj : j < 7) (hk : k < 128) where
       let same : bit_xor (2 ^ j) i ≡ k = flip_clear j i z ∙ ap (λ n. n + i) (sym es) ∙ d in
       omega (arith, bit_flip j i, ap (λ n. bit n j) same, e, z) in
       ap (bit (bit_and w (clear_places j) * 2 ^ s)) (sym d) ∙ bit_shl_above s (bit_and w (clear_places j)) i
-      ∙ omega (arith, bit-and w (clear_places j) i, bit-clear_places j i hj (omega arith), set))
+      ∙ omega (arith, bit_at_and w (clear_places j) i, bit-clear_places j i hj (omega arith), set))
       (cases_lt k s)
 
   raised_set : bit k j ≡ 1 → bit raised k ≡ bit w (bit_xor (2 ^ j) k)
@@ -50,13 +52,13 @@ module _ (w j s k : ℕ) (es : s ≡ 2 ^ j) (hj : j < 7) (hk : k < 128) where
       let d : s + i ≡ k = omega (arith, es, flip_set j k e) in
       bit_mod (bit_and w (clear_places j) * 2 ^ s) 128 k hk ∙ ap (bit (bit_and w (clear_places j) * 2 ^ s)) (sym d)
       ∙ bit_shl_above s (bit_and w (clear_places j)) i
-      ∙ omega (arith, bit-and w (clear_places j) i, bit-clear_places j i hj (omega arith), bit_flip j k, e)
+      ∙ omega (arith, bit_at_and w (clear_places j) i, bit-clear_places j i hj (omega arith), bit_flip j k, e)
 
   pub bit_exchanged : bit (bit_or (bit_and (w / 2 ^ s) (clear_places j)) (bit_and w (clear_places j) * 2 ^ s % 2 ^ 128)) k ≡ bit w (bit_xor (2 ^ j) k)
   unfolding raised
   bit_exchanged =
-      let o = bit-or (bit_and (w / 2 ^ s) (clear_places j)) raised k in
-      let a = bit-and (w / 2 ^ s) (clear_places j) k in
+      let o = bit_at_or (bit_and (w / 2 ^ s) (clear_places j)) raised k in
+      let a = bit_at_and (w / 2 ^ s) (clear_places j) k in
       let m = bit-clear_places j k hj hk in
       ⊎_elim
       (λ (e : bit k j ≡ 0). omega (arith, o, a, m, e, down e, raised_clear e))
@@ -79,16 +81,16 @@ mixed_wide of j low high lo hi hj sl so f g k hk =
     ⊎_elim
     (λ lt.
     let i = bit_xor (2 ^ j) k in
-    let own = bit_low 128 high low sl k lt in
-    let other = bit_low 128 high low sl i (flip_below 7 j k hj lt) in
-    bit_low 128 hi lo so k lt ∙ f k lt ∙ ap (λ z. of (bit k j) z (bit low i)) (sym own) ∙ ap (of (bit k j) (bit n k)) (sym other))
+    let own = bit_at_cat_low high 128 low k lt in
+    let other = bit_at_cat_low high 128 low i (flip_below 7 j k hj lt) in
+    bit_at_cat_low hi 128 lo k lt ∙ f k lt ∙ ap (λ z. of (bit k j) z (bit low i)) (sym own) ∙ ap (of (bit k j) (bit n k)) (sym other))
     (λ ge.
     let h : ℕ = k - 128 in
     let e : 128 + h ≡ k = omega arith in
     let i = bit_xor (2 ^ j) h in
     let own = bit_high 128 high low sl h in
     let other = ap (bit n) (flip_high j h hj (omega arith)) ∙ bit_high 128 high low sl i in
-    let place : bit (128 + h) j ≡ bit h j = bit_low 7 1 h (omega arith) j hj in
+    let place : bit (128 + h) j ≡ bit h j = bit_at_cat_low 1 7 h j hj in
     subst At e
     (bit_high 128 hi lo so h ∙ g h (omega arith) ∙ ap (λ z. of z (bit high h) (bit high i)) (sym place)
     ∙ ap (λ z. of (bit (128 + h) j) z (bit high i)) (sym own) ∙ ap (of (bit (128 + h) j) (bit n (128 + h))) (sym other)))
@@ -107,8 +109,8 @@ module _ (low high : ℕ) (sl : low < 2 ^ 128) (sh : high < 2 ^ 128) where
       let other = seventh k h in
       let small = or_lt 128 low high sl sh in
       ⊎_elim
-      (λ lt. omega (arith, other, bit_low 128 0 (bit_or low high) small k lt, bit-or low high k, bit_low 128 high low sl k lt, bit_low 128 low high sh k lt))
-      (λ ge. omega (arith, bit_past (wide (bit_or low high) 0) 128 k (omega arith) ge))
+      (λ lt. omega (arith, other, bit_at_cat_low 0 128 (bit_or low high) k lt, bit_at_or low high k, bit_at_cat_low high 128 low k lt, bit_at_cat_low low 128 high k lt))
+      (λ ge. omega (arith, bit_at_above (wide (bit_or low high) 0) 128 k (omega arith) ge))
       (cases_lt k 128)
 
 -- from places to members

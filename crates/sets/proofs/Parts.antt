@@ -1,12 +1,10 @@
 -- AND and XOR with a byte, one bit of it after another. Assumes nothing.
-use Rattle.std.proofs.Common.{◌≡◌, ℕ, ◌+◌, ◌-◌, ◌*◌, ◌%◌, ◌^◌, ◌<◌, Bool, eqb, ◌≢◌, sym, refl, ap, ◌∙◌, subst, arith}
-use Rattle.std.proofs.Math.Nat.{mod-eq_of_lt}
+use Rattle.std.proofs.Common.{◌≡◌, ℕ, ◌+◌, ◌-◌, ◌*◌, ◌%◌, ◌^◌, ◌<◌, ◌≢◌, sym, refl, ap, ◌∙◌, subst, arith}
 use lib.Bits.{bit_and, bit_xor, and_comm, and_mask, xor_assoc, xor_zero_l}
 use Rattle.std.proofs.lemmas.Nat.{and_assoc, mod-pow-add, pow_below}
-use Rattle.std.proofs.lemmas.Nat.Bits.{bit_at_above}
-use Rattle.std.proofs.lemmas.Bool.Decides.{Decides-eqb}
+use Rattle.std.proofs.lemmas.Nat.Bits.{bit_at_above, bit_at_not}
+use Rattle.std.specs.Int.{w8}
 use Rattle.operands.specs.Bytes.{Bytes, Same}
-use Rattle.operands.proofs.Rotations.{every, every_at}
 use Rattle.bits.specs.Bits.{bit}
 use Rattle.sets.specs.Numbers.{In, in_below}
 use Rattle.sets.specs.Steps.{Image}
@@ -21,14 +19,9 @@ xor_by_bits =
           sym (xor_assoc (2 ^ j) p b) ∙ ap (λ z. bit_xor z b) (flip_clear j p (bit_at_above p j j hp (omega arith)));
     }
 
--- all bits from j on, less p below: tried at every j and every p
-abbrev has : ℕ → ℕ → Bool
-has j p = eqb (bit (255 - p % 2 ^ j) j) 1
-
 has_bit : (j p : ℕ) → j < 8 → p < 2 ^ j → bit (255 - p) j ≡ 1
 has_bit j p hj hp =
-    let e : p % 2 ^ j ≡ p = mod-eq_of_lt hp in
-    rw e at ((Decides-eqb _ _).0 (every_at 256 (has j) (every_at 8 (λ i. every 256 (has i)) refl j hj) p (omega (arith, pow_below j 8 hj))))
+    omega (arith, bit_at_not w8 p j (omega (arith, pow_below j 8 hj)) hj, bit_at_above p j j hp (omega arith))
 
 pub without_by_bits : BitByBit without
 without_by_bits =
