@@ -44,20 +44,22 @@ pub(crate) fn sum_row(a: u8, ys: Bits) -> Bits
     }
 }
 
-// The places below 128 that lack bit `j`.
+// For each bit below 7, the places below 128 that lack it.
+const CLEAR_PLACES: [u128; 7] = [
+    0x5555_5555_5555_5555_5555_5555_5555_5555,
+    0x3333_3333_3333_3333_3333_3333_3333_3333,
+    0x0f0f_0f0f_0f0f_0f0f_0f0f_0f0f_0f0f_0f0f,
+    0x00ff_00ff_00ff_00ff_00ff_00ff_00ff_00ff,
+    0x0000_ffff_0000_ffff_0000_ffff_0000_ffff,
+    0x0000_0000_ffff_ffff_0000_0000_ffff_ffff,
+    0x0000_0000_0000_0000_ffff_ffff_ffff_ffff,
+];
+
 fn clear_places(j: u8) -> u128
     requires { j < 7 }
     ensures { result ≡ clear_places j }
 {
-    match j {
-        0 => 0x5555_5555_5555_5555_5555_5555_5555_5555,
-        1 => 0x3333_3333_3333_3333_3333_3333_3333_3333,
-        2 => 0x0f0f_0f0f_0f0f_0f0f_0f0f_0f0f_0f0f_0f0f,
-        3 => 0x00ff_00ff_00ff_00ff_00ff_00ff_00ff_00ff,
-        4 => 0x0000_ffff_0000_ffff_0000_ffff_0000_ffff,
-        5 => 0x0000_0000_ffff_ffff_0000_0000_ffff_ffff,
-        _ => 0x0000_0000_0000_0000_ffff_ffff_ffff_ffff,
-    }
+    CLEAR_PLACES[j as usize]
 }
 
 // How many bits a block has.
