@@ -1,58 +1,30 @@
--- Laws of bits and of carries. Assumes nothing.
-use Rattle.std.proofs.Common.{◌≡◌, ℕ, zero, suc, ◌+◌, ◌-◌, ◌*◌, ◌/◌, ◌%◌, ◌^◌, ◌<◌, ◌≤◌, min, max, Bool, eqb, sym, refl, ap, ◌∙◌, add-mul, pow-suc, one-add, arith, pow_pos, pow_mono}
-use native.Mathlib.Nat.{add-mul-div_right, mod-add-div', div-div-eq-div-mul, pow-succ'}
-use lib.Bits.{bit_and, bit_or, bit_xor, and_shr, or_shr, xor_shr, and_le_l, and_step, or_step, xor_add_and}
-use lib.Pow.{mod-mod-pow, mod-pow-add}
-use Rattle.std.proofs.lemmas.Nat.{field_of, div_below, mod_below}
+-- Laws of bits and of carries; more of bits are std's, of `bit_at`, which is `bit`. Assumes nothing.
+use Rattle.std.proofs.Common.{◌≡◌, ℕ, zero, suc, ◌+◌, ◌-◌, ◌*◌, ◌/◌, ◌%◌, ◌^◌, ◌<◌, ◌≤◌, Bool, eqb, sym, refl, ap, ◌∙◌, add-mul, pow-suc, one-add, arith, pow_pos}
+use native.Mathlib.Nat.{add-mul-div_right, mod-add-div', div-div-eq-div-mul}
+use lib.Bits.{bit_and, and_le_l}
+use lib.Pow.{mod-pow-add}
+use Rattle.std.proofs.lemmas.Nat.{div-add-mod', mod_below}
+use Rattle.std.proofs.lemmas.Nat.Bits.{bit_at_above, bit_at_cat_low, bit_at_ones, same_from_bits_below, bit_at_and}
+pub use Rattle.std.proofs.lemmas.Nat.Bits.{bit_at_and as bit-and, bit_at_xor as bit-xor}
 use Rattle.std.proofs.lemmas.Bool.Decides.{Decides-eqb}
 use Rattle.operands.specs.Bytes.{rotated}
 use Rattle.operands.proofs.Rotations.{every, every_at}
 use Rattle.bits.specs.Bits.{bit, carry_into}
 
-pub bit-and : (a b k : ℕ) → bit (bit_and a b) k ≡ min (bit a k) (bit b k)
-bit-and a b k = rw and_shr (omega (arith, and_step (a / 2 ^ k) (b / 2 ^ k)))
-
-pub bit-or : (a b k : ℕ) → bit (bit_or a b) k ≡ max (bit a k) (bit b k)
-bit-or a b k = rw or_shr (omega (arith, or_step (a / 2 ^ k) (b / 2 ^ k)))
-
-pub bit-xor : (a b k : ℕ) → bit (bit_xor a b) k ≡ (bit a k + bit b k) % 2
-bit-xor a b k = rw xor_shr (omega (arith, xor_add_and (a / 2 ^ k) (b / 2 ^ k)))
-
 -- the lowest m bits are kept, and those past them are 0
 pub bit_mod : (n m k : ℕ) → k < m → bit (n % 2 ^ m) k ≡ bit n k
-bit_mod n m k h =
-    let i : ℕ = m - k - 1 in
-    let e : (i + 1) + k ≡ m = omega arith in
-    let f : n % 2 ^ m / 2 ^ k ≡ n / 2 ^ k % 2 ^ (i + 1) = rw e at (field_of n (i + 1) k) in
-    rw f (mod-mod-pow (n / 2 ^ k) i 1)
-
-pub bit_past : (n m k : ℕ) → n < 2 ^ m → m ≤ k → bit n k ≡ 0
-bit_past n m k h g = omega (arith, div_below n (2 ^ k) 1 (pow_pos k) (let p : 2 ^ m ≤ 2 ^ k = pow_mono g in omega arith))
+bit_mod n m k h = sym (bit_at_cat_low (n / 2 ^ m) m (n % 2 ^ m) k h) ∙ ap (λ x. bit x k) (div-add-mod' n (2 ^ m))
 
 pub bit_mod_past : (n m k : ℕ) → m ≤ k → bit (n % 2 ^ m) k ≡ 0
-bit_mod_past n m k h = bit_past (n % 2 ^ m) m k (mod_below n (2 ^ m) (pow_pos m)) h
-
-pub bit_half : (a k : ℕ) → bit (a / 2) k ≡ bit a (suc k)
-bit_half a k = rw (pow-succ' 2 k, div-div-eq-div-mul a 2 (2 ^ k))
-
--- numbers of n bits are equal if their bits are
-pub bits_same : (n a b : ℕ) → a < 2 ^ n → b < 2 ^ n → ((k : ℕ) → k < n → bit a k ≡ bit b k) → a ≡ b
-bits_same zero a b ha hb f = omega arith
-bits_same (suc n) a b ha hb f =
-    let d = pow-suc 2 n in
-    let half : a / 2 ≡ b / 2 =
-    bits_same n (a / 2) (b / 2) (omega arith) (omega arith)
-    (λ k h. bit_half a k ∙ f (suc k) (omega arith) ∙ sym (bit_half b k)) in
-    let last : a / 1 % 2 ≡ b / 1 % 2 = f 0 (omega arith) in
-    omega arith
+bit_mod_past n m k h = bit_at_above (n % 2 ^ m) m k (mod_below n (2 ^ m) (pow_pos m)) h
 
 -- a within b, as a test of whole bytes and bit by bit
 pub bits_below : (a b : ℕ) → bit_and a b ≡ a → (k : ℕ) → bit a k ≤ bit b k
-bits_below a b e k = omega (arith, bit-and a b k, ap (λ n. bit n k) e)
+bits_below a b e k = omega (arith, bit_at_and a b k, ap (λ n. bit n k) e)
 
 pub and_within : (a b : ℕ) → a < 256 → ((k : ℕ) → k < 8 → bit a k ≤ bit b k) → bit_and a b ≡ a
 and_within a b ha f =
-    bits_same 8 (bit_and a b) a (omega (arith, and_le_l a b)) ha (λ k h. omega (arith, bit-and a b k, f k h))
+    same_from_bits_below 8 (bit_and a b) a (omega (arith, and_le_l a b)) ha (λ k h. omega (arith, bit_at_and a b k, f k h))
 
 -- tried at every count, every byte and every bit
 rightly : ℕ → ℕ → ℕ → Bool
@@ -66,9 +38,7 @@ bit-rotated n b k hn hb hk =
 
 -- every bit of a byte of n ones is 1
 pub bit-ones : (n k : ℕ) → n ≤ 8 → k < n → bit (2 ^ n - 1) k ≡ 1
-bit-ones n k h g =
-    let one = λ (m j : ℕ). eqb (bit (2 ^ m - 1) j) 1 in
-    (Decides-eqb _ _).0 (every_at n (one n) (every_at 9 (λ m. every m (one m)) refl n (omega arith)) k g)
+bit-ones n k h g = bit_at_ones n k g
 
 -- a sum's quotient
 div_sum : (x y p : ℕ) → zero < p → (x + y) / p ≡ x / p + y / p + (x % p + y % p) / p

@@ -10,7 +10,8 @@ use Rattle.operands.specs.Bytes.Two.{and, xor, sum, carry}
 use Rattle.operands.specs.Operations.{Lawful}
 use Rattle.bits.specs.Bits.{bit, carry_into}
 use Rattle.bits.specs.Mays.{Marked, May, MayCarry, OneMay, TwoMay, mays}
-use Rattle.bits.proofs.Bits.{bit-and, bit-xor, bit_mod, bit_past, bit_mod_past, bit-rotated, bit_add, carry_out}
+use Rattle.std.proofs.lemmas.Nat.Bits.{bit_at_and, bit_at_xor, bit_at_above}
+use Rattle.bits.proofs.Bits.{bit_mod, bit_mod_past, bit-rotated, bit_add, carry_out}
 
 -- sets that hold more
 
@@ -58,7 +59,7 @@ carry_small P Q (suc k) w (u, v, c, ((a, (p, ea)), (b, (q, eb)), m, e)) = omega 
 
 carry_bits : (P Q : Bytes) (w k : ℕ) → MayCarry P Q 8 w → TwoMay carry P Q k (bit w k)
 carry_bits P Q w zero m = let e : w ≡ bit w 0 = omega (arith, carry_small P Q 8 w m) in subst (MayCarry P Q 8) e m
-carry_bits P Q w (suc k) m = bit_past w 1 (suc k) (omega (arith, carry_small P Q 8 w m)) (omega arith)
+carry_bits P Q w (suc k) m = bit_at_above w 1 (suc k) (omega (arith, carry_small P Q 8 w m)) (omega arith)
 
 one_may_has : (f : One) (P : Bytes) (a k : ℕ) → a < 256 → k < 8 → P a → OneMay f P k (bit (one f a) k)
 one_may_has (rotate n) P a k ha hk p = (a, (p, sym (bit-rotated (n % 8) a k (omega arith) ha hk)))
@@ -68,8 +69,8 @@ one_may_has (keep n) P a k ha hk p =
 
 two_may_has : (f : Two) (P Q : Bytes) (a b k : ℕ) → a < 256 → b < 256 → k < 8 → P a → Q b → TwoMay f P Q k (bit (two f a b) k)
 two_may_has and P Q a b k ha hb hk p q =
-    (bit a k, bit b k, (may_has P a k p, may_has Q b k q, bit-and a b k ∙ sym (mul_bits (bit a k) (bit b k) (omega arith) (omega arith))))
-two_may_has xor P Q a b k ha hb hk p q = (bit a k, bit b k, (may_has P a k p, may_has Q b k q, bit-xor a b k))
+    (bit a k, bit b k, (may_has P a k p, may_has Q b k q, bit_at_and a b k ∙ sym (mul_bits (bit a k) (bit b k) (omega arith) (omega arith))))
+two_may_has xor P Q a b k ha hb hk p q = (bit a k, bit b k, (may_has P a k p, may_has Q b k q, bit_at_xor a b k))
 two_may_has sum P Q a b k ha hb hk p q =
     (bit a k, bit b k, carry_into a b k, (may_has P a k p, may_has Q b k q, carry_has P Q a b k p q, bit_mod (a + b) 8 k hk ∙ bit_add a b k))
 two_may_has carry P Q a b k ha hb hk p q =

@@ -8,7 +8,8 @@ use Rattle.operands.specs.Bytes.One.{rotate, keep}
 use Rattle.operands.specs.Bytes.Two.{and, xor, sum, carry}
 use Rattle.bits.specs.Bits.{bit, carry_into}
 use Rattle.bits.specs.Mays.{Marked, May, OneMay, TwoMay, may_ones, may_twos}
-use Rattle.bits.proofs.Bits.{bit-and, bit-or, bit-xor, bit_mod, bit_past, bit_mod_past, bit-rotated, bit_add, carry_le, carry_out, and_within}
+use Rattle.std.proofs.lemmas.Nat.Bits.{bit_at_and, bit_at_or, bit_at_xor, bit_at_above}
+use Rattle.bits.proofs.Bits.{bit_mod, bit_mod_past, bit-rotated, bit_add, carry_le, carry_out, and_within}
 use Rattle.bits.proofs.Mays.{mul_bits, one_below}
 use Rattle.marks.specs.declared.mark.Marks.{Marks}
 use Rattle.marks.specs.Marks.{Between, marks_has, marks_lawful}
@@ -58,8 +59,8 @@ module _ (b o lo hi k v : ℕ) (g : Opened b o lo hi k) where
   opened_total : Between (least_of b o) (most_of b o) k v → (t : ℕ) × ((lo ≤ t) × (t ≤ hi) × (v ≡ t % 2))
   unfolding Opened
   opened_total (p, q) =
-      let l = bit-xor (bit_or b o) o k in
-      let h = bit-or b o k in
+      let l = bit_at_xor (bit_or b o) o k in
+      let h = bit_at_or b o k in
       ⊎_elim
       (λ e. let z = g.2 e in (lo, (omega arith, omega arith, omega (arith, g.1))))
       (λ n.
@@ -70,8 +71,8 @@ module _ (b o lo hi k v : ℕ) (g : Opened b o lo hi k) where
   total_opened : (t : ℕ) → lo ≤ t → t ≤ hi → v ≡ t % 2 → Between (least_of b o) (most_of b o) k v
   unfolding Opened
   total_opened t p q e =
-      let l = bit-xor (bit_or b o) o k in
-      let h = bit-or b o k in
+      let l = bit_at_xor (bit_or b o) o k in
+      let h = bit_at_or b o k in
       ⊎_elim
       (λ s. let z = g.2 s in (omega (arith, g.1), omega (arith, g.1)))
       (λ n. let z = g.3 (omega (arith, g.0)) in (omega arith, omega arith))
@@ -79,7 +80,7 @@ module _ (b o lo hi k v : ℕ) (g : Opened b o lo hi k) where
 
 bit_carries : (a b k : ℕ) → k < 8 → bit (carries_of a b) k ≡ carry_into a b k
 bit_carries a b k h =
-    omega (arith, bit-xor (bit_xor a b) ((a + b) % 256) k, bit-xor a b k, bit_mod (a + b) 8 k h, bit_add a b k, carry_le a b k)
+    omega (arith, bit_at_xor (bit_xor a b) ((a + b) % 256) k, bit_at_xor a b k, bit_mod (a + b) 8 k h, bit_add a b k, carry_le a b k)
 
 xor_opened : (x y : Marks) (k : ℕ) →
     Opened (bit_xor x.low y.low) (open_xor x y) (bit x.low k + bit y.low k) (bit x.high k + bit y.high k) k
@@ -87,10 +88,10 @@ unfolding Opened
 xor_opened x y k =
     let a = ordered x k in
     let b = ordered y k in
-    let o = bit-or (open_bits x) (open_bits y) k in
-    let p = bit-xor x.low x.high k in
-    let q = bit-xor y.low y.high k in
-    (omega arith, bit-xor x.low y.low k, λ e. omega arith, λ e. omega arith)
+    let o = bit_at_or (open_bits x) (open_bits y) k in
+    let p = bit_at_xor x.low x.high k in
+    let q = bit_at_xor y.low y.high k in
+    (omega arith, bit_at_xor x.low y.low k, λ e. omega arith, λ e. omega arith)
 
 sum_opened : (x y : Marks) (k : ℕ) → k < 8 →
     Opened ((x.low + y.low) % 256) (open_sum x y) (bit x.low k + bit y.low k + carry_into x.low y.low k) (bit x.high k + bit y.high k + carry_into x.high y.high k) k
@@ -100,13 +101,13 @@ sum_opened x y k h =
     let b = ordered y k in
     let c = carry_ordered x y k in
     let d = carry_le x.high y.high k in
-    let m = bit-or (open_xor x y) (bit_xor (carries_of x.low y.low) (carries_of x.high y.high)) k in
-    let n = bit-xor (carries_of x.low y.low) (carries_of x.high y.high) k in
+    let m = bit_at_or (open_xor x y) (bit_xor (carries_of x.low y.low) (carries_of x.high y.high)) k in
+    let n = bit_at_xor (carries_of x.low y.low) (carries_of x.high y.high) k in
     let l = bit_carries x.low y.low k h in
     let g = bit_carries x.high y.high k h in
-    let o = bit-or (open_bits x) (open_bits y) k in
-    let p = bit-xor x.low x.high k in
-    let q = bit-xor y.low y.high k in
+    let o = bit_at_or (open_bits x) (open_bits y) k in
+    let p = bit_at_xor x.low x.high k in
+    let q = bit_at_xor y.low y.high k in
     (omega arith, bit_mod (x.low + y.low) 8 k h ∙ bit_add x.low y.low k, λ e. omega arith, λ e. omega arith)
 
 -- low and high of a bit that is the smaller of two
@@ -117,8 +118,8 @@ and_between a b c d v hb hd u w (p, q) (r, s) e =
 
 pub two_exactly : (f : Two) (x y : Marks) → Exactly (two_low f x y) (two_high f x y) (TwoMay f (marks_has x) (marks_has y))
 two_exactly and x y k v h =
-    let el = bit-and x.low y.low k in
-    let eh = bit-and x.high y.high k in
+    let el = bit_at_and x.low y.low k in
+    let eh = bit_at_and x.high y.high k in
     let a = ordered x k in
     let b = ordered y k in
     let ml = mul_bits (bit x.low k) (bit y.low k) (omega arith) (omega arith) in
@@ -169,8 +170,8 @@ two_exactly carry x y zero v h =
 two_exactly carry x y (suc k) v h =
     let sx = x.small in
     let sy = y.small in
-    let l = bit_past ((x.low + y.low) / 256) 1 (suc k) (omega (arith, low_below x, low_below y)) (omega arith) in
-    let g = bit_past ((x.high + y.high) / 256) 1 (suc k) (omega arith) (omega arith) in
+    let l = bit_at_above ((x.low + y.low) / 256) 1 (suc k) (omega (arith, low_below x, low_below y)) (omega arith) in
+    let g = bit_at_above ((x.high + y.high) / 256) 1 (suc k) (omega arith) (omega arith) in
     (λ m. omega (arith, m.1), λ o. (omega arith, omega arith))
 
 -- the answer of bytes l and h: low lies within high, and the members are right
@@ -198,4 +199,4 @@ pub opened_within : (b o : ℕ) → b < 256 → o < 256 → bit_and (least_of b 
 opened_within b o hb ho =
     let m = most_of b o in
     and_within (least_of b o) m (xor_lt 8 m o (or_lt 8 b o hb ho) ho)
-    (λ k _. let l = bit-xor m o k in let h = bit-or b o k in omega arith)
+    (λ k _. let l = bit_at_xor m o k in let h = bit_at_or b o k in omega arith)

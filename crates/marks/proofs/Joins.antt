@@ -7,7 +7,7 @@ use Rattle.std.proofs.lemmas.Bool.{both_ways, cases_lt, cases_eq}
 use Rattle.operands.specs.Bytes.{Inside, Same}
 use Rattle.bits.specs.Bits.{bit}
 use Rattle.bits.specs.Mays.{Marked, May}
-use Rattle.bits.proofs.Bits.{bit-and, bit-or}
+use Rattle.std.proofs.lemmas.Nat.Bits.{bit_at_and, bit_at_or}
 use Rattle.marks.specs.declared.mark.Marks.{Marks}
 use Rattle.marks.specs.Marks.{Between, marks_has, count_mays, marks_rank, marks_joined}
 use Rattle.marks.specs.Closed.{joined_low, joined_high}
@@ -16,8 +16,8 @@ use Rattle.marks.proofs.Members.{low_below, low_has, high_has, low_same, high_sa
 
 joined_exactly : (x y : Marks) → Exactly (joined_low x y) (joined_high x y) (λ k v. May (marks_has x) k v ⊎ May (marks_has y) k v)
 joined_exactly x y k v h =
-    let a = bit-and x.low y.low k in
-    let o = bit-or x.high y.high k in (
+    let a = bit_at_and x.low y.low k in
+    let o = bit_at_or x.high y.high k in (
       λ (p, q).
           ⊎_elim (λ g. inr (between_may y k v (omega arith, omega arith)))
           (λ g.

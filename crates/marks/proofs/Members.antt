@@ -7,7 +7,8 @@ use Rattle.std.proofs.lemmas.Bool.{cases_lt, cases_eq}
 use Rattle.operands.specs.Bytes.{Bytes, Same, Only}
 use Rattle.bits.specs.Bits.{bit, carry_into}
 use Rattle.bits.specs.Mays.{Marked, May, MayCarry}
-use Rattle.bits.proofs.Bits.{bit_mod, bit_past, bit_mod_past, bit-ones, bits_below, and_within, bits_same, carry_le, carry_mono}
+use Rattle.std.proofs.lemmas.Nat.Bits.{bit_at_above, same_from_bits_below, bit_at_ones}
+use Rattle.bits.proofs.Bits.{bit_mod, bit_mod_past, bits_below, and_within, carry_le, carry_mono}
 use Rattle.bits.proofs.Mays.{marked_inside}
 use Rattle.marks.specs.declared.mark.Marks.{Marks}
 use Rattle.marks.specs.Marks.{Between, marks_has}
@@ -76,7 +77,7 @@ exactly_within l h O s e b m =
 -- the marks of one byte
 pub same_only : (b : ℕ) → b < 256 → Same (Marked (Between b b)) (Only b)
 same_only b h = (
-  λ a m. bits_same 8 a b m.0 h (λ k g. omega (arith, (m.1 k g).0, (m.1 k g).1)),
+  λ a m. same_from_bits_below 8 a b m.0 h (λ k g. omega (arith, (m.1 k g).0, (m.1 k g).1)),
   λ a e. rw e (h, λ k g. (omega arith, omega arith)),
 )
 
@@ -92,21 +93,21 @@ has_within x b m =
 
 pub low_same : (x y : Marks) → marks_has y x.low → marks_has x y.low → x.low ≡ y.low
 low_same x y p q =
-    bits_same 8 x.low y.low (low_below x) (low_below y) (λ k h. omega (arith, (p.1 k h).0, (q.1 k h).0))
+    same_from_bits_below 8 x.low y.low (low_below x) (low_below y) (λ k h. omega (arith, (p.1 k h).0, (q.1 k h).0))
 
 pub high_same : (x y : Marks) → marks_has y x.high → marks_has x y.high → x.high ≡ y.high
 high_same x y p q =
-    bits_same 8 x.high y.high x.small y.small (λ k h. omega (arith, (p.1 k h).1, (q.1 k h).1))
+    same_from_bits_below 8 x.high y.high x.small y.small (λ k h. omega (arith, (p.1 k h).1, (q.1 k h).1))
 
 -- marks that leave exactly the lowest n bits open
 pub lowest_same : (n : ℕ) → n ≤ 8 → Same (Marked (Between 0 (2 ^ n - 1))) (λ b. b < 2 ^ n)
 lowest_same n h =
     let p = pow_pos n in
-    let zero-past = λ (k : ℕ) (g : n ≤ k). bit_past (2 ^ n - 1) n k (omega arith) g in (
+    let zero-past = λ (k : ℕ) (g : n ≤ k). bit_at_above (2 ^ n - 1) n k (omega arith) g in (
       λ b m.
           let low = mod_below b (2 ^ n) p in
           let e : b ≡ b % 2 ^ n =
-          bits_same 8 b (b % 2 ^ n) m.0 (omega (arith, mod-le b (2 ^ n), m.0))
+          same_from_bits_below 8 b (b % 2 ^ n) m.0 (omega (arith, mod-le b (2 ^ n), m.0))
           (λ k g.
           ⊎_elim (λ lt. sym (bit_mod b n k lt))
           (λ ge. omega (arith, (m.1 k g).1, zero-past k ge, bit_mod_past b n k ge))
@@ -116,8 +117,8 @@ lowest_same n h =
           let q : 2 ^ n ≤ 256 = pow_mono h in (
             omega arith,
             λ k i. (
-              omega (arith, bit_past 0 0 k (omega arith) (omega arith)),
-              ⊎_elim (λ lt. omega (arith, bit-ones n k h lt)) (λ ge. omega (arith, bit_past b n k g ge)) (cases_lt k n),
+              omega (arith, bit_at_above 0 0 k (omega arith) (omega arith)),
+              ⊎_elim (λ lt. omega (arith, bit_at_ones n k lt)) (λ ge. omega (arith, bit_at_above b n k g ge)) (cases_lt k n),
             ),
           ),
     )

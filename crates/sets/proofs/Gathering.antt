@@ -5,7 +5,7 @@ use lib.Bits.{bit_or}
 use Rattle.operands.specs.Bytes.{Bytes, Same, Every}
 use Rattle.sets.specs.Numbers.{In}
 use Rattle.sets.proofs.Highest.{in_top}
-use Rattle.sets.proofs.Unions.{same_from_number, in_or, in_or_left, in_or_right, in_all}
+use Rattle.sets.proofs.Unions.{same_from_number, in_or, in_or_left, in_or_right, in_zero, in_all}
 
 abbrev pub From : ℕ → (ℕ → Bytes) → Bytes
 From xs Part k = (a : ℕ) × (In xs a × Part a k)
@@ -40,3 +40,8 @@ module _ (xs : ℕ) (Part : ℕ → Bytes) where
   pub gathered_full : (rest n : ℕ) → n ≡ 2 ^ 256 - 1 → ((a k : ℕ) → In xs a → Part a k → k < 256) → Gathered xs Part rest n → Same (In n) (From xs Part)
   gathered_full rest n e small g =
       (g.0, λ k (a, (h, p)). (same_from_number n (2 ^ 256 - 1) Every e in_all).1 k (small a k h p))
+
+  -- no member is left
+  pub gathered_done : (rest n : ℕ) → rest ≡ 0 → Gathered xs Part rest n → Same (In n) (From xs Part)
+  gathered_done rest n e g =
+      (g.0, λ k (a, (h, p)). ⊎_elim (λ i. i) (λ left. absurd (in_zero a (subst (λ z. In z a) e left))) (g.1 a k h p))

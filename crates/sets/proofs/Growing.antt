@@ -4,7 +4,7 @@ use lib.Bits.{bit_or, or_step, or_add_and}
 use lib.Count.{ones, ones_step}
 use Rattle.std.proofs.lemmas.Bool.{cases_lt}
 use Rattle.sets.specs.Numbers.{In}
-use Rattle.bits.proofs.Bits.{bit_half}
+use Rattle.std.proofs.lemmas.Nat.Bits.{bit_at-suc}
 
 -- the members of n and of m, and one of them that n lacks
 abbrev pub More : ℕ → ℕ → Type 0
@@ -12,7 +12,7 @@ More n m = (b : ℕ) × ((In n b ⊎ In m b) × (In n b → ⊥))
 
 more_half : (n m : ℕ) → More (n / 2) (m / 2) → More n m
 more_half n m (b, (h, out)) =
-    (suc b, (⊎_elim (λ p. inl (sym (bit_half n b) ∙ p)) (λ q. inr (sym (bit_half m b) ∙ q)) h, λ p. out (bit_half n b ∙ p)))
+    (suc b, (⊎_elim (λ p. inl (bit_at-suc n b ∙ p)) (λ q. inr (bit_at-suc m b ∙ q)) h, λ p. out (sym (bit_at-suc n b) ∙ p)))
 
 pub or_more : (w n m : ℕ) → n < 2 ^ w → m < 2 ^ w → (bit_or n m ≡ n) ⊎ ((ones n < ones (bit_or n m)) × More n m)
 or_more zero n m hn hm = inl (omega (arith, or_add_and n m))

@@ -4,7 +4,8 @@ use Rattle.std.proofs.lemmas.Bool.{cases_order}
 use Rattle.operands.specs.Bytes.{Same}
 use Rattle.bits.specs.Bits.{bit}
 use Rattle.sets.specs.Numbers.{In, in_below}
-use Rattle.sets.proofs.Halves.{bit_low, bit_high}
+use Rattle.std.proofs.lemmas.Nat.Bits.{bit_at_cat_low}
+use Rattle.sets.proofs.Halves.{bit_high}
 
 module _ (a others : ℕ) (small : others < 2 ^ a) where
   one_top : 2 ^ a + others ≡ 1 * 2 ^ a + others
@@ -16,7 +17,7 @@ module _ (a others : ℕ) (small : others < 2 ^ a) where
       ap (λ n. bit n a) one_top ∙ ap (bit (1 * 2 ^ a + others)) (sym e) ∙ bit_high a 1 others small 0
 
   bit-others : (k : ℕ) → k < a → bit (2 ^ a + others) k ≡ bit others k
-  bit-others k lt = ap (λ n. bit n k) one_top ∙ bit_low a 1 others small k lt
+  bit-others k lt = ap (λ n. bit n k) one_top ∙ bit_at_cat_low 1 a others k lt
 
   pub top_most : (k : ℕ) → In (2 ^ a + others) k → k ≤ a
   top_most k h = omega (arith, in_below (suc a) (2 ^ a + others) k (omega (arith, small, pow-suc 2 a)) h)

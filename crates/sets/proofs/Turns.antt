@@ -6,7 +6,8 @@ use Rattle.operands.specs.Bytes.Two.{sum}
 use Rattle.bits.specs.Bits.{bit}
 use Rattle.sets.specs.Numbers.{In, in_below}
 use Rattle.sets.specs.Steps.{Image}
-use Rattle.sets.proofs.Halves.{bit_low, bit_high}
+use Rattle.std.proofs.lemmas.Nat.Bits.{bit_at_cat_low}
+use Rattle.sets.proofs.Halves.{bit_high}
 
 -- the bit at k comes from back k
 pub image_moved : (r n : ℕ) (f back : ℕ → ℕ) → r < 2 ^ 256 → n < 2 ^ 256 →
@@ -33,7 +34,7 @@ module _ (b low high lo hi : ℕ) (hb : b < 128) (sl : low < 2 ^ 128) (so : lo <
   pub bit_turned : (k : ℕ) → k < 256 → bit (wide lo hi) k ≡ bit (wide low high) ((k + (256 - b)) % 256)
   bit_turned k h =
       ⊎_elim
-      (λ k<128. bit_low 128 hi lo so k k<128 ∙ ⊎_elim
+      (λ k<128. bit_at_cat_low hi 128 lo k k<128 ∙ ⊎_elim
       (λ k<b.
       let e : 128 + (128 - b + k) ≡ (k + (256 - b)) % 256 = omega arith in
       ul.1 k k<b ∙ sym (bit_high 128 high low sl (128 - b + k)) ∙ ap (bit (wide low high)) e)
@@ -41,7 +42,7 @@ module _ (b low high lo hi : ℕ) (hb : b < 128) (sl : low < 2 ^ 128) (so : lo <
       let i : ℕ = k - b in
       let d : b + i ≡ k = omega arith in
       let e : i ≡ (k + (256 - b)) % 256 = omega arith in
-      ap (bit lo) (sym d) ∙ ul.0 i (omega arith) ∙ sym (bit_low 128 high low sl i (omega arith)) ∙ ap (bit (wide low high)) e)
+      ap (bit lo) (sym d) ∙ ul.0 i (omega arith) ∙ sym (bit_at_cat_low high 128 low i (omega arith)) ∙ ap (bit (wide low high)) e)
       (cases_lt k b))
       (λ k≥128.
       let j : ℕ = k - 128 in
@@ -49,7 +50,7 @@ module _ (b low high lo hi : ℕ) (hb : b < 128) (sl : low < 2 ^ 128) (so : lo <
       ap (bit (wide lo hi)) (sym f) ∙ bit_high 128 hi lo so j ∙ ⊎_elim
       (λ j<b.
       let e : 128 - b + j ≡ (k + (256 - b)) % 256 = omega arith in
-      uh.1 j j<b ∙ sym (bit_low 128 high low sl (128 - b + j) (omega arith)) ∙ ap (bit (wide low high)) e)
+      uh.1 j j<b ∙ sym (bit_at_cat_low high 128 low (128 - b + j) (omega arith)) ∙ ap (bit (wide low high)) e)
       (λ b≤j.
       let i : ℕ = j - b in
       let d : b + i ≡ j = omega arith in
@@ -63,12 +64,12 @@ pub bit_swapped : (low high k : ℕ) → low < 2 ^ 128 → high < 2 ^ 128 → k 
 bit_swapped low high k sl sh h =
     ⊎_elim
     (λ lt. let e : 128 + k ≡ (k + 128) % 256 = omega arith in
-    bit_low 128 low high sh k lt ∙ sym (bit_high 128 high low sl k) ∙ ap (bit (wide low high)) e)
+    bit_at_cat_low low 128 high k lt ∙ sym (bit_high 128 high low sl k) ∙ ap (bit (wide low high)) e)
     (λ ge.
     let j : ℕ = k - 128 in
     let f : 128 + j ≡ k = omega arith in
     let e : j ≡ (k + 128) % 256 = omega arith in
-    ap (bit (wide high low)) (sym f) ∙ bit_high 128 low high sh j ∙ sym (bit_low 128 high low sl j (omega arith)) ∙ ap (bit (wide low high)) e)
+    ap (bit (wide high low)) (sym f) ∙ bit_high 128 low high sh j ∙ sym (bit_at_cat_low high 128 low j (omega arith)) ∙ ap (bit (wide low high)) e)
     (cases_lt k 128)
 
 -- sums modulo 256 move every bit

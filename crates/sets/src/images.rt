@@ -1,23 +1,14 @@
 // What an operation gives from every member.
 ghost use Rattle.std.specs.Prelude.{◌≡◌, ◌-◌, ◌%◌, ◌^◌};
-ghost use Rattle.operands.specs.Bytes.{Same, one, two, kept_bits};
+ghost use Rattle.operands.specs.Bytes.{Same, Two, one, kept_bits};
 ghost use Rattle.operands.specs.Bytes.One.{rotate as rotate_by, keep as keep_bits};
 ghost use Rattle.operands.specs.Exact.{exact_twos};
 ghost use Rattle.sets.specs.Numbers.{number, In};
-ghost use Rattle.sets.specs.Steps.{Image, op_of};
+ghost use Rattle.sets.specs.Steps.{Image, GivesRows};
 
 use crate::bitset::Bits;
-use crate::rows::{Mix, mixed_row, sum_row};
+use crate::rows::and_row;
 use operands::rotated_byte;
-
-// What is done to each two members of two sets.
-// An enum and no closure, whose contract could not name the operation but only speak of all that it may be.
-#[derive(Clone, Copy)]
-pub(crate) enum Op {
-    And,
-    Xor,
-    Sum,
-}
 
 // Each member rotated. All bytes are often met, and stay all bytes.
 pub(crate) fn rotated_members(by: u8, xs: Bits) -> Bits
@@ -47,23 +38,13 @@ fn kept_bits(bits: u8) -> u8
 pub(crate) fn kept_members(bits: u8, xs: Bits) -> Bits
     ensures { Same (In (number result)) (Image (one (keep_bits bits)) (In (number xs))) }
 {
-    mixed_row(Mix::And, kept_bits(bits), xs)
+    and_row(kept_bits(bits), xs)
 }
 
-// What `op` gives from `a` and each member of `ys`.
-fn row(op: Op, a: u8, ys: Bits) -> Bits
-    ensures { Same (In (number result)) (Image (two (op_of op) a) (In (number ys))) }
-{
-    match op {
-        Op::And => mixed_row(Mix::And, a, ys),
-        Op::Xor => mixed_row(Mix::Xor, a, ys),
-        Op::Sum => sum_row(a, ys),
-    }
-}
-
-// What `op` gives from each member of `xs` and each of `ys`, by a row for each of `xs`.
-fn rows(op: Op, xs: Bits, ys: Bits) -> Bits
-    ensures { Same (In (number result)) (exact_twos (op_of op) (In (number xs)) (In (number ys))) }
+// What an operation gives from each member of `xs` and each of `ys`, by a row for each of `xs`.
+fn rows<F: Fn(u8, Bits) -> Bits>(row: F, xs: Bits, ys: Bits) -> Bits
+    requires { F.IsAlwaysCallable row }
+    ensures { (f : Two) → GivesRows f (F.post row) → Same (In (number result)) (exact_twos f (In (number xs)) (In (number ys))) }
 {
     let mut out = Bits::default();
     for a in xs.members() {
@@ -71,18 +52,19 @@ fn rows(op: Op, xs: Bits, ys: Bits) -> Bits
         if out.is_all() {
             return out;
         }
-        out = out.union(row(op, a, ys));
+        out = out.union(row(a, ys));
     }
     out
 }
 
 // The same; the smaller set has fewer rows.
-pub(crate) fn combined(op: Op, xs: Bits, ys: Bits) -> Bits
-    ensures { Same (In (number result)) (exact_twos (op_of op) (In (number xs)) (In (number ys))) }
+pub(crate) fn combined<F: Fn(u8, Bits) -> Bits>(row: F, xs: Bits, ys: Bits) -> Bits
+    requires { F.IsAlwaysCallable row }
+    ensures { (f : Two) → GivesRows f (F.post row) → Same (In (number result)) (exact_twos f (In (number xs)) (In (number ys))) }
 {
     if xs.count() <= ys.count() {
-        rows(op, xs, ys)
+        rows(row, xs, ys)
     } else {
-        rows(op, ys, xs)
+        rows(row, ys, xs)
     }
 }

@@ -4,12 +4,12 @@ ghost use Rattle.operands.specs.Bytes.{Same};
 ghost use Rattle.operands.specs.Bytes.Two.{carry as carry_of};
 ghost use Rattle.operands.specs.Exact.{exact_twos};
 ghost use Rattle.sets.specs.Numbers.{number};
-ghost use Rattle.sets.specs.Steps.{op_of};
 ghost use Rattle.sets.specs.Sets.{set_has, set_rank, set_joined, set_operations, set_lawful, set_joined_least};
 ghost use Rattle.std.proofs.lemmas.Nat.{ones-le};
 
 use crate::bitset::Bits;
-use crate::images::{Op, combined, kept_members, rotated_members};
+use crate::images::{combined, kept_members, rotated_members};
+use crate::rows::{and_row, sum_row, xor_row};
 use crate::set::Set;
 use operands::{LeastJoin, Operand, Spreading, carry_byte};
 
@@ -19,13 +19,6 @@ fn made(bits: Bits) -> Set
     ensures { number result.bits ≡ number bits }
 {
     Set { bits }
-}
-
-// What `op` gives from each two members.
-fn pairs(op: Op, x: Set, y: Set) -> Set
-    ensures { Same (set_has result) (exact_twos (op_of op) (set_has x) (set_has y)) }
-{
-    made(combined(op, x.bits, y.bits))
 }
 
 // A carry is 0 or 1, and grows with the bytes: the least members give the least, the greatest the greatest.
@@ -55,15 +48,18 @@ impl Operand for Set {
     }
 
     fn and(self, other: Set) -> Set {
-        pairs(Op::And, self, other)
+        made(combined(and_row, self.bits, other.bits))
     }
 
     fn xor(self, other: Set) -> Set {
-        pairs(Op::Xor, self, other)
+        made(combined(xor_row, self.bits, other.bits))
     }
 
     fn add(self, other: Set) -> (Set, Set) {
-        (pairs(Op::Sum, self, other), carries(self, other))
+        (
+            made(combined(sum_row, self.bits, other.bits)),
+            carries(self, other),
+        )
     }
 
     fn contains(self, b: u8) -> bool {

@@ -1,10 +1,10 @@
 // What an operation gives from one byte and each member of a set, by whole words.
-ghost use Rattle.std.specs.Prelude.{◌≡◌, ℕ, ◌+◌, ◌-◌, ◌%◌, ◌^◌, ◌<◌, Decides, bit_xor};
+ghost use Rattle.std.specs.Prelude.{◌≡◌, ℕ, ◌+◌, ◌-◌, ◌%◌, ◌^◌, ◌<◌, bit_xor};
 ghost use Rattle.operands.specs.Bytes.{Same, two};
-ghost use Rattle.operands.specs.Bytes.Two.{sum as sum_of};
+ghost use Rattle.operands.specs.Bytes.Two.{and as and_of, xor as xor_of, sum as sum_of};
 ghost use Rattle.bits.specs.Bits.{bit};
 ghost use Rattle.sets.specs.Numbers.{number, In};
-ghost use Rattle.sets.specs.Mixing.{mix_of, mixer, wanted, mixed_bit, clear_places};
+ghost use Rattle.sets.specs.Mixing.{without, folded_bit, clear_places, BitByBit, ChangesBit};
 ghost use Rattle.sets.specs.Steps.{Image};
 
 use crate::bitset::Bits;
@@ -44,28 +44,22 @@ pub(crate) fn sum_row(a: u8, ys: Bits) -> Bits
     }
 }
 
-// The operations that work on each bit of a byte by itself, so that a row can be made one bit at a time.
-// An enum and no closures: they differ in three small steps, and the contracts name the operation.
-#[derive(Clone, Copy)]
-pub(crate) enum Mix {
-    And,
-    Xor,
-}
+// For each bit below 7, the places below 128 that lack it.
+const CLEAR_PLACES: [u128; 7] = [
+    0x5555_5555_5555_5555_5555_5555_5555_5555,
+    0x3333_3333_3333_3333_3333_3333_3333_3333,
+    0x0f0f_0f0f_0f0f_0f0f_0f0f_0f0f_0f0f_0f0f,
+    0x00ff_00ff_00ff_00ff_00ff_00ff_00ff_00ff,
+    0x0000_ffff_0000_ffff_0000_ffff_0000_ffff,
+    0x0000_0000_ffff_ffff_0000_0000_ffff_ffff,
+    0x0000_0000_0000_0000_ffff_ffff_ffff_ffff,
+];
 
-// The places below 128 that lack bit `j`.
 fn clear_places(j: u8) -> u128
     requires { j < 7 }
     ensures { result ≡ clear_places j }
 {
-    match j {
-        0 => 0x5555_5555_5555_5555_5555_5555_5555_5555,
-        1 => 0x3333_3333_3333_3333_3333_3333_3333_3333,
-        2 => 0x0f0f_0f0f_0f0f_0f0f_0f0f_0f0f_0f0f_0f0f,
-        3 => 0x00ff_00ff_00ff_00ff_00ff_00ff_00ff_00ff,
-        4 => 0x0000_ffff_0000_ffff_0000_ffff_0000_ffff,
-        5 => 0x0000_0000_ffff_ffff_0000_0000_ffff_ffff,
-        _ => 0x0000_0000_0000_0000_ffff_ffff_ffff_ffff,
-    }
+    CLEAR_PLACES[j as usize]
 }
 
 // How many bits a block has.
@@ -76,62 +70,84 @@ fn block(j: u8) -> u8
     1 << j
 }
 
-// Neighbouring blocks of 2 ^ j bits folded into the lower one, or exchanged.
-fn mixed_word(mix: Mix, w: u128, j: u8) -> u128
+// Neighbouring blocks of 2 ^ j bits folded into the lower one.
+fn folded(w: u128, j: u8) -> u128
     requires { j < 7 }
-    ensures { (k : ℕ) → k < 128 → bit result k ≡ mixed_bit mix (bit k j) (bit w k) (bit w (bit_xor (2 ^ j) k)) }
+    ensures { (k : ℕ) → k < 128 → bit result k ≡ folded_bit (bit k j) (bit w k) (bit w (bit_xor (2 ^ j) k)) }
+{
+    (w | (w >> block(j))) & clear_places(j)
+}
+
+// Neighbouring blocks of 2 ^ j bits exchanged.
+fn exchanged(w: u128, j: u8) -> u128
+    requires { j < 7 }
+    ensures { (k : ℕ) → k < 128 → bit result k ≡ bit w (bit_xor (2 ^ j) k) }
 {
     let places = clear_places(j);
     let by = block(j);
-    match mix {
-        Mix::And => (w | (w >> by)) & places,
-        Mix::Xor => ((w >> by) & places) | ((w & places) << by),
-    }
+    ((w >> by) & places) | ((w & places) << by)
 }
 
-// Each member without bit `j`, or with the other bit `j`.
-fn mixed(mix: Mix, xs: Bits, j: u8) -> Bits
+// Each member without bit `j`.
+fn cleared(xs: Bits, j: u8) -> Bits
     requires { j < 8 }
-    ensures { Same (In (number result)) (Image (two (mix_of mix) (mixer mix j)) (In (number xs))) }
+    ensures { Same (In (number result)) (Image (without (2 ^ j)) (In (number xs))) }
 {
     if j < 7 {
-        return Bits {
-            low: mixed_word(mix, xs.low, j),
-            high: mixed_word(mix, xs.high, j),
-        };
-    }
-    match mix {
-        Mix::And => Bits {
+        Bits {
+            low: folded(xs.low, j),
+            high: folded(xs.high, j),
+        }
+    } else {
+        Bits {
             low: xs.low | xs.high,
             high: 0,
-        },
-        Mix::Xor => Bits {
+        }
+    }
+}
+
+// Each member with the other bit `j`.
+fn flipped(xs: Bits, j: u8) -> Bits
+    requires { j < 8 }
+    ensures { Same (In (number result)) (Image (bit_xor (2 ^ j)) (In (number xs))) }
+{
+    if j < 7 {
+        Bits {
+            low: exchanged(xs.low, j),
+            high: exchanged(xs.high, j),
+        }
+    } else {
+        Bits {
             low: xs.high,
             high: xs.low,
-        },
+        }
     }
 }
 
-// Whether bit `j` of `a` changes what it is mixed with.
-fn changes(mix: Mix, a: u8, j: u8) -> bool
-    requires { j < 8 }
-    ensures { Decides result (bit a j ≡ wanted mix) }
+// What `change` makes of the members, one bit of `bits` after another.
+fn changed<F: Fn(Bits, u8) -> Bits>(bits: u8, change: F, xs: Bits) -> Bits
+    requires { (s : Bits) (j : ℕ) → j < 8 → F.pre change s j }
+    ensures { (f : ℕ → ℕ → ℕ) → BitByBit f → ChangesBit f (F.post change) → Same (In (number result)) (Image (f bits) (In (number xs))) }
 {
-    match mix {
-        Mix::And => (a >> j) % 2 == 0,
-        Mix::Xor => (a >> j) % 2 == 1,
-    }
-}
-
-// What the operation gives: one bit of `a` after another is mixed into every member.
-pub(crate) fn mixed_row(mix: Mix, a: u8, ys: Bits) -> Bits
-    ensures { Same (In (number result)) (Image (two (mix_of mix) a) (In (number ys))) }
-{
-    let mut out = ys;
+    let mut out = xs;
     for j in 0..8u8 {
-        if changes(mix, a, j) {
-            out = mixed(mix, out, j);
+        if (bits >> j) % 2 == 1 {
+            out = change(out, j);
         }
     }
     out
+}
+
+// What AND gives: each member without the bits that `a` lacks.
+pub(crate) fn and_row(a: u8, ys: Bits) -> Bits
+    ensures { Same (In (number result)) (Image (two and_of a) (In (number ys))) }
+{
+    changed(!a, cleared, ys)
+}
+
+// What XOR gives: each member with the bits of `a` flipped.
+pub(crate) fn xor_row(a: u8, ys: Bits) -> Bits
+    ensures { Same (In (number result)) (Image (two xor_of a) (In (number ys))) }
+{
+    changed(a, flipped, ys)
 }

@@ -4,5 +4,5 @@ use Rattle.sets.proofs.bitset.lowest_bit.Goals as goal
 
 pub returns : goal.returns
 returns c =
-    let t = trailing_least 128 c.args.w c.requires (omega arith) in
+    let t = trailing_least c.args.w c.requires (omega arith) in
     record { small = t.0; found = t.1.0; least = t.1.1 }

@@ -1,19 +1,19 @@
 use Rattle.std.proofs.Common.{◌≡◌, ◌^◌, ◌<◌, ap, ◌∙◌, arith}
 use lib.Bits.{bit_or}
-use Rattle.std.proofs.lemmas.Nat.{pow_pos}
+use Rattle.std.proofs.lemmas.Nat.{pow_pos, le_or_l}
 use Rattle.operands.specs.Bytes.{two}
 use Rattle.operands.specs.Bytes.Two.{carry}
 use Rattle.operands.specs.Exact.{exact_twos}
 use Rattle.sets.specs.Numbers.{number}
 use Rattle.sets.specs.Sets.{set_has}
-use Rattle.sets.proofs.Unions.{same_from_number, or_pos}
+use Rattle.sets.proofs.Unions.{same_from_number}
 use Rattle.sets.proofs.Carries.{greatest_from_top, carries_same}
 use Rattle.sets.proofs.operand.carries.Goals as goal
 
 pub made-requires : goal.made-requires
 made-requires c =
     let first : 0 < number c.only.result = omega (arith, c.only.ensures, pow_pos c.carry_byte-least.result) in
-    omega (arith, c.union.ensures, or_pos (number c.only.result) (number c.only-2.result) first)
+    omega (arith, c.union.ensures, first, le_or_l (number c.only.result) (number c.only-2.result))
 
 pub returns : goal.returns
 returns c =

@@ -1,6 +1,7 @@
 use Rattle.std.proofs.Common.{◌≡◌, ℕ, ◌+◌, ◌-◌, ◌*◌, ◌/◌, ◌%◌, ◌^◌, ap, ◌∙◌, arith}
 use Rattle.bits.specs.Bits.{bit}
-use Rattle.bits.proofs.Bits.{bit_mod, bit-or, bit_past}
+use Rattle.std.proofs.lemmas.Nat.Bits.{bit_at_or, bit_at_above}
+use Rattle.bits.proofs.Bits.{bit_mod}
 use Rattle.sets.proofs.Halves.{bit_shr, bit_shl_above, bit_shl_under}
 use Rattle.sets.proofs.rows.moved_up.Goals as goal
 
@@ -18,12 +19,12 @@ returns c =
       above = λ k h.
           omega (
             arith,
-            bit-or up down (by + k),
+            bit_at_or up down (by + k),
             bit_mod (w * 2 ^ by) 128 (by + k) h,
             bit_shl_above by w k,
             from (by + k),
-            bit_past below 128 (128 - by + (by + k)) (omega arith) (omega arith),
+            bit_at_above below 128 (128 - by + (by + k)) (omega arith) (omega arith),
           );
       under = λ k h.
-          omega (arith, bit-or up down k, bit_mod (w * 2 ^ by) 128 k (omega arith), bit_shl_under by w k h, from k);
+          omega (arith, bit_at_or up down k, bit_mod (w * 2 ^ by) 128 k (omega arith), bit_shl_under by w k h, from k);
     }

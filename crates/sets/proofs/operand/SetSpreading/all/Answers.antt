@@ -1,8 +1,7 @@
-use Rattle.std.proofs.Common.{◌-◌, ◌^◌, ◌∙◌}
+use Rattle.std.proofs.Common.{◌∙◌}
 use Rattle.operands.specs.Bytes.{Every}
-use Rattle.sets.specs.Numbers.{number}
 use Rattle.sets.proofs.Unions.{same_from_number, in_all}
 use Rattle.sets.proofs.operand.SetSpreading.all.Goals as goal
 
 pub returns : goal.returns
-returns c = same_from_number (number c.made.result.bits) (2 ^ 256 - 1) Every (c.made.ensures ∙ c.all.ensures) in_all
+returns c = same_from_number _ _ Every (c.made.ensures ∙ c.all.ensures) in_all

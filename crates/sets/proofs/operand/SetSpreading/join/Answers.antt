@@ -2,15 +2,16 @@ use Rattle.std.proofs.Common.{rules, ◌≡◌, Decides, ℕ, ◌<◌, true, sym
 use lib.Bits.{bit_or}
 use lib.Count.{ones}
 use Rattle.std.proofs.lemmas.Bool.{both_ways, cases_eq}
+use Rattle.std.proofs.lemmas.Nat.{le_or_l}
 use Rattle.sets.specs.Numbers.{number, In}
 use Rattle.sets.specs.Sets.{set_joined}
-use Rattle.sets.proofs.Unions.{same_from_number, or_pos, in_or_same}
+use Rattle.sets.proofs.Unions.{same_from_number, in_or_same}
 use Rattle.sets.proofs.Words.{number_differs}
 use Rattle.sets.proofs.Growing.{More, or_more}
 use Rattle.sets.proofs.operand.SetSpreading.join.Goals as goal
 
 pub made-requires : goal.made-requires
-made-requires c = omega (arith, c.union-both.ensures, or_pos (number c.args.self.bits) (number c.args.other.bits) c.args.self.some)
+made-requires c = omega (arith, c.union-both.ensures, c.args.self.some, le_or_l (number c.args.self.bits) (number c.args.other.bits))
 
 pub returns : goal.returns
 returns c =
