@@ -25,11 +25,7 @@ use Rattle.checker.specs.Judging.{LeastTable, Judged}
 some_word : {K : Type 0} (n : ℕ) (status : List ℕ) (operands : List K) → (Lacks n status operands → ⊥) → 0 < n
 some_word n status operands room = ⊎_elim (λ h. h) (λ h. absurd (room (inl (omega arith)))) (cases_lt 0 n)
 
--- what answers a number is not refused
-pub not_refused : {Refused : Type 0} (r : Option ℕ) (k : ℕ) → r ≡ Some k → (Refused → r ≡ None) → Refused → ⊥
-not_refused r k some none refused = let e = none refused in let z : ◌≡◌ {A = ℕ} 0 1 = cc in absurd (omega arith)
-
-pub room_suffices : {K : Type 0} (n : ℕ) (status status' : List ℕ) (operands operands' : List K) → length status' ≡ length status → length operands' ≡ length operands → (Lacks n status operands → ⊥) → Suffices n status' operands'
+room_suffices : {K : Type 0} (n : ℕ) (status status' : List ℕ) (operands operands' : List K) → length status' ≡ length status → length operands' ≡ length operands → (Lacks n status operands → ⊥) → Suffices n status' operands'
 room_suffices n status status' operands operands' es eo room =
     record {
       bytes = ⊎_elim (λ h. absurd (room (inr (inl h)))) (λ h. omega (arith, es, h)) (cases_lt (length status) n);
@@ -37,19 +33,17 @@ room_suffices n status status' operands operands' es eo room =
     }
 
 module _ {K : Type 0} (o : Operations K) (l : Lawful o) (joined : K → K → Bytes) (least : JoinIsLeast o joined) (code grants status : List ℕ) (operands : List K) (status' : List ℕ) (operands' : List K) where
-  -- the memory lacks room, or there is no word
-  pub judged_lacking : Lacks (words_in code) status operands → status' ≡ status → operands' ≡ operands → Judged o code grants status operands status' operands' (Err fault.Memory)
-  judged_lacking lacks s k =
-      record {
-        lacking = λ _. (refl, (s, k));
-        table = λ no. absurd (no lacks);
-        accepted = λ a e. let z : ◌≡◌ {A = ℕ} 0 1 = cc in absurd (omega arith);
-        promised = λ a e. let z : ◌≡◌ {A = ℕ} 0 1 = cc in absurd (omega arith);
-        exactly = λ no. absurd (no lacks);
-        refused = λ no. absurd (no lacks);
-      }
+  -- growing answered that it reached k words: what it promises, in a memory that lacks room and in one that does not
+  module _ (answer : Option ℕ) (k : ℕ) (some : answer ≡ Some k) (refused : Lacks (words_in code) status operands → (answer ≡ None) × ((status' ≡ status) × (operands' ≡ operands))) (grows : (Lacks (words_in code) status operands → ⊥) → (answer ≡ Some (entries_in status' (words_in code))) × Grown o joined code status operands status' operands') where
+    room : Lacks (words_in code) status operands → ⊥
+    room lacks = let e = (refused lacks).0 in let z : ◌≡◌ {A = ℕ} 0 1 = cc in absurd (omega arith)
 
-  module _ (room : Lacks (words_in code) status operands → ⊥) (grown : Grown o joined code status operands status' operands') where
+    grown : Grown o joined code status operands status' operands'
+    grown = (grows room).1
+
+    counted : k ≡ entries_in status' (words_in code)
+    counted = let e = (grows room).0 in cc
+
     left : LeastTable o code status operands status' operands'
     left =
         record {
@@ -60,34 +54,35 @@ module _ {K : Type 0} (o : Operations K) (l : Lawful o) (joined : K → K → By
           bare = grown.bare;
         }
 
-    pub judged_clear : (a : Acceptance) → a.words ≡ words_in code → a.reached ≡ entries_in status' (words_in code) → Clear o code grants (table_of o status' operands') → Judged o code grants status operands status' operands' (Ok a)
-    judged_clear a w r clear =
+    pub judged_clear : (words : ℕ) → words ≡ words_in code → Clear o code grants (table_of o status' operands') → Judged o code grants status operands status' operands' (Ok (record { words = words; reached = k }))
+    judged_clear words w clear =
+        let a : Acceptance = record { words = words; reached = k } in
         record {
           lacking = λ lacks. absurd (room lacks);
           table = λ _. left;
           accepted = λ b e.
               let same : a ≡ b = cc in
-              (record { rules = grown.rules; clear = clear }, (subst (λ (x : Acceptance). x.words ≡ words_in code) same w, subst (λ (x : Acceptance). x.reached ≡ entries_in status' (words_in code)) same r));
+              (record { rules = grown.rules; clear = clear }, (subst (λ (x : Acceptance). x.words ≡ words_in code) same w, subst (λ (x : Acceptance). x.reached ≡ entries_in status' (words_in code)) same counted));
           promised = λ _ _. promise_kept o l code grants (table_of o status' operands') (some_word (words_in code) status operands room) (record { rules = grown.rules; clear = clear });
           exactly = λ _ t m. (a, refl);
           refused = λ _ f e. let z : ◌≡◌ {A = ℕ} 0 1 = cc in absurd (omega arith);
         }
 
-    judged_found : (k : Breach) (p : ℕ) → Lowest o code grants (table_of o status' operands') p k → Judged o code grants status operands status' operands' (Err (fault.Breach k p))
-    judged_found k p low =
+    judged_found : (breach : Breach) (p : ℕ) → Lowest o code grants (table_of o status' operands') p breach → Judged o code grants status operands status' operands' (Err (fault.Breach breach p))
+    judged_found breach p low =
         record {
           lacking = λ lacks. absurd (room lacks);
           table = λ _. left;
           accepted = λ a e. let z : ◌≡◌ {A = ℕ} 0 1 = cc in absurd (omega arith);
           promised = λ a e. let z : ◌≡◌ {A = ℕ} 0 1 = cc in absurd (omega arith);
-          exactly = λ _ t m. absurd (lowest_dooms o l code grants (table_of o status' operands') p k low (grown.least least) t m);
-          refused = λ _ f e. (k, (p, (sym (let same : fault.Breach k p ≡ f = cc in same), low)));
+          exactly = λ _ t m. absurd (lowest_dooms o l code grants (table_of o status' operands') p breach low (grown.least least) t m);
+          refused = λ _ f e. (breach, (p, (sym (let same : fault.Breach breach p ≡ f = cc in same), low)));
         }
 
     -- what a scan of the grown table found
-    pub judged_fault : (f : ScanFault) → Suffices (words_in code) status' operands' → Scanned o code grants status' operands' (Err f) → Judged o code grants status operands status' operands' (Err (scan_passed f))
-    judged_fault scanned.Memory room' s = absurd (s room')
-    judged_fault (scanned.Breach k p) room' s = judged_found k p s.1
+    pub judged_fault : (f : ScanFault) → length status' ≡ length status → length operands' ≡ length operands → Scanned o code grants status' operands' (Err f) → Judged o code grants status operands status' operands' (Err (scan_passed f))
+    judged_fault scanned.Memory es eo s = absurd (s (room_suffices (words_in code) status status' operands operands' es eo room))
+    judged_fault (scanned.Breach breach p) es eo s = judged_found breach p s.1
 
 -- the bytes of the parts of an image
 pub code_bytes : (file : List ℕ) (start n : ℕ) (x : Part) → IsCode file start n x → part_bytes x ≡ take n (drop start file)

@@ -75,8 +75,7 @@ impl fmt::Display for CheckFault {
         match self {
             CheckFault::File(fault) => write!(f, "{fault}"),
             _ => {
-                let number = self.number();
-                let place = self.place();
+                let (number, place) = self.report();
                 write!(f, "check {number} at {place}")
             }
         }

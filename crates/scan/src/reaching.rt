@@ -55,6 +55,7 @@ impl Program<'_> {
         let first = first_target(here, p);
         let end = first + target_count(here);
         let mut found = here_breach(here, held);
+        // a loop: the borrow checker does not cover filter, filter_map, chain and min over calls of `self` and `held`
         for a in first..end {
             if held.reaches(here, p, a) {
                 found = earlier(found, self.word_breach(held, p, a));
