@@ -19,11 +19,11 @@ pub fn mask(grants: &[u8], side: Side, port: u8) -> u8
     ensures value { result ≡ mask_of grants.now side port }
     ensures entry { IsMask grants.now side port result }
 {
-    let key = [bank_number(side), port];
+    let bank = bank_number(side);
     let (entries, _) = grants.as_chunks::<4>();
     let mut found = 0;
-    for &[bank, port, mask, _] in entries {
-        if [bank, port] == key {
+    for &[its_bank, its_port, mask, _] in entries {
+        if its_bank == bank && its_port == port {
             found = mask;
         }
     }
