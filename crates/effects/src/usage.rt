@@ -4,7 +4,7 @@ ghost use Rattle.effects.specs.Usage.{selector as selector_of, select_side, sour
 
 use instructions::{Destination, Instruction, Register, Side, Source};
 
-// The bank that a source reads.
+// The bank that a source reads. A match, here and for a destination: by `field` and `map` a cycle takes six machine instructions more.
 pub fn source_side(source: Source) -> Option<Side>
     ensures { result ≡ source_side source }
 {
@@ -36,6 +36,7 @@ pub fn select_side(register: Register) -> Option<Side>
 }
 
 // The bank that a transmit to a register writes: R12 stands for the left one, R13 for the right one.
+// A match of its own, as `select_side` is: a helper that takes the two registers would only hide them from the arms.
 pub fn transmit_side(register: Register) -> Option<Side>
     ensures { result ≡ transmit_side register }
 {
@@ -46,7 +47,7 @@ pub fn transmit_side(register: Register) -> Option<Side>
     }
 }
 
-// The bank whose whole port a transmit writes.
+// The bank whose whole port a transmit writes: only a register may stand for one.
 pub fn whole_port(destination: Destination) -> Option<Side>
     ensures { result ≡ whole_port destination }
 {

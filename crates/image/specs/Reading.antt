@@ -3,12 +3,11 @@
 --   First file f        the fault f occurs, and none before it
 --   Granted, Withheld   each entry of the file gives its port its mask, and a port that no entry names has mask 0
 --   Read file r         the answer for a file: its two parts where no fault occurs, else the first fault
-use Rattle.std.specs.Prelude.{◌≡◌, ℕ, ◌*◌, ◌<◌, List, Ok, Err, Result, ◌≢◌}
+use Rattle.std.specs.Prelude.{◌≡◌, ℕ, ◌*◌, ◌<◌, ◌≤◌, List, length, slice_index, Ok, Err, Result, ◌≢◌}
 use Rattle.image.specs.declared.fault.FileFault.{FileFault}
-use Rattle.image.specs.declared.layout.Layout.{Layout}
 use Rattle.image.specs.declared.part.Image.{Image}
 use Rattle.instructions.specs.declared.field.Side.{Side}
-use Rattle.image.specs.Files.{word_count, start_of_code, end_of_code, count_of_grants, start_of_grants, end_of_grants, entry_place, bank_at, port_at, mask_at}
+use Rattle.image.specs.Files.{format, word_count, start_of_code, count_of_grants, start_of_grants, entry_place, bank_at, port_at, mask_at}
 use Rattle.image.specs.Faults.{Occurs, rank}
 use Rattle.image.specs.Grants.{bank_number, mask_of}
 use Rattle.image.specs.Parts.{IsCode, IsGrants, part_bytes}
@@ -46,14 +45,20 @@ abbrev pub Read : List ℕ → Result Image FileFault → Type 0
 Read file (Ok image) = Faultless file × IsImage file image
 Read file (Err fault) = First file fault
 
--- the first seven checks: where the parts lie
-pub record IsLayout (file : List ℕ) (x : Layout) : Type 0 where
-  pub code_start : x.code_start ≡ start_of_code file
-  pub code_end : x.code_end ≡ end_of_code file
-  pub grant_start : x.grant_start ≡ start_of_grants file
-  pub grant_count : x.grant_count ≡ count_of_grants file
-  pub grant_end : x.grant_end ≡ end_of_grants file
+-- the five numbers of a header
+pub record IsHeader (file header : List ℕ) : Type 0 where
+  pub whole : 20 ≤ length file
+  pub format : slice_index header 0 ≡ format file
+  pub words : slice_index header 1 ≡ word_count file
+  pub code : slice_index header 2 ≡ start_of_code file
+  pub grants : slice_index header 3 ≡ count_of_grants file
+  pub grant_start : slice_index header 4 ≡ start_of_grants file
 
-abbrev pub Laid : List ℕ → Result Layout FileFault → Type 0
-Laid file (Ok x) = Clear file 8 × IsLayout file x
+-- the first seven checks: where the parts lie
+pub record IsLaid (file : List ℕ) (image : Image) : Type 0 where
+  pub code : IsCode file (start_of_code file) (2 * word_count file) image.code
+  pub grants : IsGrants file (start_of_grants file) (4 * count_of_grants file) image.grants
+
+abbrev pub Laid : List ℕ → Result Image FileFault → Type 0
+Laid file (Ok image) = Clear file 8 × IsLaid file image
 Laid file (Err fault) = First file fault

@@ -1,36 +1,39 @@
 // The grants of a file, entry by entry.
-ghost use Rattle.std.specs.Prelude.{◌+◌, ◌≤◌, length, MatchResult};
+ghost use Rattle.std.specs.Prelude.{ℕ, ◌+◌, ◌*◌, ◌<◌, ◌^◌, List, length, MatchResult, ⊤};
 ghost use Rattle.image.specs.Entries.{IsKey, IsRefused};
-ghost use Rattle.image.specs.Reading.{Clear, First, Faultless, IsLayout};
+ghost use Rattle.image.specs.Files.{count_of_grants, start_of_grants};
+ghost use Rattle.image.specs.Parts.{IsGrants, part_bytes, part_place};
+ghost use Rattle.image.specs.Reading.{Clear, First, Faultless};
 
 use crate::fault::FileFault;
-use crate::layout::Layout;
+use crate::part::Part;
 
-// The key of the entry at a place: first its bank and its spare byte are tried, then that the key is not below the least that may come.
-fn try_entry(file: &[u8], place: usize, least_key: u32) -> Result<u32, FileFault>
-    requires { place + 4 ≤ length file.now }
-    ensures { MatchResult result (λ key. IsKey file.now place least_key key) (λ f. IsRefused file.now place least_key f) }
+// The key of an entry: first its bank and its spare byte are tried, then that the key is not below the least that may come.
+fn try_entry(entry: [u8; 4], place: usize, least_key: u16) -> Result<u16, FileFault>
+    ensures bound { MatchResult result (λ key. key < 512) (λ _. ⊤) }
+    ensures value { MatchResult result (λ key. IsKey entry 0 least_key key) (λ f. IsRefused entry 0 place least_key f) }
 {
-    let bank = file[place];
-    if bank > 1 || file[place + 3] != 0 {
+    let [bank, port, _, spare] = entry;
+    if bank > 1 || spare != 0 {
         return Err(FileFault::Entry { place });
     }
-    let key = bank as u32 * 256 + file[place + 1] as u32;
+    let key = u16::from_be_bytes([bank, port]);
     if key < least_key {
         return Err(FileFault::Order { place });
     }
     Ok(key)
 }
 
-// Tries the entries one by one.
-pub(crate) fn try_entries(file: &[u8], layout: Layout) -> Result<(), FileFault>
-    requires { (Clear file.now 8) × (IsLayout file.now layout) }
-    ensures { MatchResult result (λ _. Faultless file.now) (λ f. First file.now f) }
+// Tries the entries of a grant part one by one.
+pub(crate) fn try_entries(grants: Part) -> Result<(), FileFault>
+    requires { part_place grants + length (part_bytes grants) < 2 ^ 64 }
+    ensures { (file : List ℕ) → Clear file 8 → IsGrants file (start_of_grants file) (4 * count_of_grants file) grants.entry → MatchResult result (λ _. Faultless file) (λ f. First file f) }
 {
+    let start = grants.place();
+    let (entries, _) = grants.bytes().as_chunks::<4>();
     let mut least_key = 0;
-    for k in 0..layout.grant_count {
-        let place = layout.grant_start + 4 * k;
-        let key = try_entry(file, place, least_key)?;
+    for (k, entry) in entries.iter().enumerate() {
+        let key = try_entry(*entry, start + 4 * k, least_key)?;
         least_key = key + 1;
     }
     Ok(())

@@ -1,9 +1,10 @@
 // Where the parts of a file lie, by its header.
-ghost use Rattle.std.specs.Prelude.{◌≡◌, ◌+◌, ◌≤◌, length};
-ghost use Rattle.image.specs.Files.{number32};
-ghost use Rattle.image.specs.Reading.{Laid};
+ghost use Rattle.std.specs.Prelude.{◌≡◌, ◌+◌, ◌<◌, ◌≤◌, ◌⊎◌, ◌^◌, length, take, drop, MatchOption};
+ghost use Rattle.image.specs.Reading.{Laid, IsHeader};
 
 use crate::fault::FileFault;
+use crate::part::{Image, Part};
+use words::MOST_WORDS;
 
 const HEADER_BYTES: usize = 20;
 
@@ -12,69 +13,73 @@ pub const MOST_BYTES: usize = 32_768;
 
 const FORMAT: u32 = 1;
 
-const MOST_WORDS: u32 = 8_192;
+const MOST_GRANTS: usize = 512;
 
-const MOST_GRANTS: u32 = 512;
-
-#[derive(Clone, Copy)]
-pub struct Layout {
-    pub code_start: usize,
-    pub code_end: usize,
-    pub grant_start: usize,
-    pub grant_count: usize,
-    pub grant_end: usize,
-}
-
-// The header's number at a place, most significant byte first.
-fn number_at(file: &[u8], place: usize) -> u32
-    requires { place + 4 ≤ length file.now }
-    ensures { result ≡ number32 file.now place }
+// The five numbers of the header, each with its most significant byte first, or none where the file is shorter.
+fn header_of(file: &[u8]) -> Option<[u32; 5]>
+    ensures { MatchOption result (length file.now < 20) (λ header. IsHeader file.now header) }
 {
-    u32::from_be_bytes([
-        file[place],
-        file[place + 1],
-        file[place + 2],
-        file[place + 3],
+    let (numbers, _) = file.as_chunks::<4>();
+    let [format, words, code, grants, grant_start, ..] = *numbers else {
+        return None;
+    };
+    Some([
+        u32::from_be_bytes(format),
+        u32::from_be_bytes(words),
+        u32::from_be_bytes(code),
+        u32::from_be_bytes(grants),
+        u32::from_be_bytes(grant_start),
     ])
 }
 
-// Where the parts of a file lie, or the first fault of its header.
-pub(crate) fn layout_of(file: &[u8]) -> Result<Layout, FileFault>
+// So many bytes of a file from a place on, or none where they begin inside the header or end after the file.
+fn bytes_at<'a>(file: &'a [u8], start: usize, size: usize) -> Option<&'a [u8]>
+    requires { start + size < 2 ^ 64 }
+    ensures { MatchOption result ((start < 20) ⊎ (length file.now < start + size)) (λ bytes. (20 ≤ start) × (start + size ≤ length file.now) × (bytes.now ≡ take size (drop start file.now)) × (length bytes.now ≡ size)) }
+{
+    if start < HEADER_BYTES {
+        return None;
+    }
+    file.get(start..start + size)
+}
+
+// The parts of a file where its header says, or the first fault of the header.
+pub(crate) fn layout_of<'a>(file: &'a [u8]) -> Result<Image<'a>, FileFault>
     ensures { Laid file.now result }
 {
-    if file.len() < HEADER_BYTES || file.len() > MOST_BYTES {
+    let [format, words, code_start, entries, grant_start] = header_of(file).ok_or(FileFault::Size)?;
+    if file.len() > MOST_BYTES {
         return Err(FileFault::Size);
     }
-    if number_at(file, 0) != FORMAT {
+    if format != FORMAT {
         return Err(FileFault::Format);
     }
-    let words = number_at(file, 4);
+    let words = words as usize;
     if words == 0 || words > MOST_WORDS {
         return Err(FileFault::WordCount);
     }
-    let code_start = number_at(file, 8) as usize;
-    let code_end = code_start + 2 * words as usize;
-    if code_start < HEADER_BYTES || code_end > file.len() {
-        return Err(FileFault::CodePlace);
-    }
-    let grants = number_at(file, 12);
-    if grants > MOST_GRANTS {
+    let code_start = code_start as usize;
+    let code = bytes_at(file, code_start, 2 * words).ok_or(FileFault::CodePlace)?;
+    let entries = entries as usize;
+    if entries > MOST_GRANTS {
         return Err(FileFault::GrantCount);
     }
-    let grant_count = grants as usize;
-    let grant_start = number_at(file, 16) as usize;
-    let grant_end = grant_start + 4 * grant_count;
-    if grant_start < HEADER_BYTES || grant_end > file.len() {
-        return Err(FileFault::GrantPlace);
-    }
-    if grant_count > 0 && code_start < grant_end && grant_start < code_end {
+    let grant_start = grant_start as usize;
+    let grants = bytes_at(file, grant_start, 4 * entries).ok_or(FileFault::GrantPlace)?;
+    if entries > 0
+        && code_start < grant_start + grants.len()
+        && grant_start < code_start + code.len()
+    {
         return Err(FileFault::Overlap);
     }
-    Ok(Layout {
-        code_start,
-        code_end,
-        grant_start,
-        grant_count,
-        grant_end,
+    Ok(Image {
+        code: Part::Code {
+            bytes: code,
+            place: code_start,
+        },
+        grants: Part::Grants {
+            bytes: grants,
+            place: grant_start,
+        },
     })
 }

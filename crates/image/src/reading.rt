@@ -10,21 +10,9 @@ use crate::part::{Image, Part};
 pub fn read<'a>(file: &'a [u8]) -> Result<Image<'a>, FileFault>
     ensures { Read file.now result }
 {
-    let layout = layout_of(file)?;
-    try_entries(file, layout)?;
-    let code_start = layout.code_start;
-    let code_end = layout.code_end;
-    let code = Part::Code {
-        bytes: &file[code_start..code_end],
-        place: code_start,
-    };
-    let grant_start = layout.grant_start;
-    let grant_end = layout.grant_end;
-    let grants = Part::Grants {
-        bytes: &file[grant_start..grant_end],
-        place: grant_start,
-    };
-    Ok(Image { code, grants })
+    let image = layout_of(file)?;
+    try_entries(image.grants)?;
+    Ok(image)
 }
 
 // The two parts of any file: those of an image, and for a refused file two empty parts at place 0.

@@ -66,6 +66,7 @@ pub enum Class {
 }
 
 impl Class {
+    // The number that stands for the class in a word.
     pub fn number(self) -> u8
         ensures { result ≡ class_number self }
     {

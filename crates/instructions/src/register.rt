@@ -22,27 +22,8 @@ pub enum Register {
     R17,
 }
 
-const REGISTERS: [Register; 16] = [
-    Register::R0,
-    Register::R1,
-    Register::R2,
-    Register::R3,
-    Register::R4,
-    Register::R5,
-    Register::R6,
-    Register::R7,
-    Register::R10,
-    Register::R11,
-    Register::R12,
-    Register::R13,
-    Register::R14,
-    Register::R15,
-    Register::R16,
-    Register::R17,
-];
-
 impl Register {
-    // The number that stands for the register in a word.
+    // The number that stands for the register in a word; `u8::from` would not say which number.
     pub fn number(self) -> u8
         ensures value { result ≡ number_of self }
         ensures bound { result < 16 }
@@ -54,6 +35,23 @@ impl Register {
     pub fn of(number: u8) -> Register
         ensures { result ≡ register_of number }
     {
-        REGISTERS[number as usize % 16]
+        match number % 16 {
+            0 => Register::R0,
+            1 => Register::R1,
+            2 => Register::R2,
+            3 => Register::R3,
+            4 => Register::R4,
+            5 => Register::R5,
+            6 => Register::R6,
+            7 => Register::R7,
+            8 => Register::R10,
+            9 => Register::R11,
+            10 => Register::R12,
+            11 => Register::R13,
+            12 => Register::R14,
+            13 => Register::R15,
+            14 => Register::R16,
+            _ => Register::R17,
+        }
     }
 }

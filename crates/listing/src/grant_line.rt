@@ -1,5 +1,6 @@
 // A grant of a listing: bank, port and mask.
-ghost use Rattle.std.specs.Prelude.{◌≡◌};
+ghost use Rattle.std.specs.Prelude.{◌≡◌, if◌then◌else◌, nat_eq};
+ghost use Rattle.instructions.specs.declared.field.Side.TheVariants.{Left, Right};
 ghost use Rattle.listing.specs.Lines.{ListsGrant};
 
 use instructions::Side;
@@ -12,22 +13,26 @@ pub struct GrantLine {
     pub mask: u8,
 }
 
+// The bank of an entry: no `TryFrom`, since every entry of any grant part has a line, and each number but 0 is listed as the right bank.
+fn side_of(bank: u8) -> Side
+    ensures { result ≡ (if nat_eq bank 0 then Left else Right) }
+{
+    match bank {
+        0 => Side::Left,
+        _ => Side::Right,
+    }
+}
+
 // The line for an entry of a grant part, or none past its last entry.
 pub fn grant_at(grants: &[u8], entry: usize) -> Option<GrantLine>
     ensures { ListsGrant grants.now entry result }
 {
-    if entry >= grants.len() / 4 {
-        return None;
-    }
-    let side = if grants[4 * entry] == 0 {
-        Side::Left
-    } else {
-        Side::Right
-    };
+    let (entries, _) = grants.as_chunks::<4>();
+    let [bank, port, mask, _] = *entries.get(entry)?;
     Some(GrantLine {
-        side,
-        port: grants[4 * entry + 1],
-        mask: grants[4 * entry + 2],
+        side: side_of(bank),
+        port,
+        mask,
     })
 }
 

@@ -24,6 +24,7 @@ impl From<u16> for Line {
     }
 }
 
+// Functions, and no newtype with `Display`: an instruction's own `Display` is the listing's, and a wrapper for this one would have to be bound to a name before each `write!`.
 fn write_field<W: fmt::Write>(f: &mut fmt::Formatter<W>, field: Field) -> fmt::Result {
     let bit = field.bit;
     let length = field.length;

@@ -17,6 +17,7 @@ fn field_number(field: Field) -> u8
     }
 }
 
+// One match for each of the two types: they share no trait, and one would be longer than both.
 fn source_number(source: Source) -> u8
     ensures value { result ≡ source_number source }
     ensures bound { result < 32 }
