@@ -44,6 +44,7 @@ impl Setup {
         Ok(())
     }
 
+    // Both sides are written out, as in `Bench::drive`.
     pub fn set_port(&mut self, side: Side, number: u8, port: Port)
         ensures { self.new ≡ with_port side number port self.old }
     {

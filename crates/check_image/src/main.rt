@@ -5,7 +5,7 @@
 mod options;
 
 use checker::{Acceptance, CheckFault, check};
-use files::file_or_input;
+use files::{ended, file_or_input};
 use marks::Marks;
 use operands::{LeastJoin, Operand, Spreading};
 use options::{Kind, Options, OptionsFault, USAGE, read_options};
@@ -54,11 +54,5 @@ fn main(rt: HostRuntime) -> anyhow::Result<ExitCode> {
         }
         Err(OptionsFault::Arguments(error)) => return Err(error.into()),
     };
-    match run(&rt, options) {
-        Ok(status) => Ok(status),
-        Err(error) => {
-            eprintln!(rt; "check_image: {error}")?;
-            Ok(ExitCode::FAILURE)
-        }
-    }
+    Ok(ended(&rt, "check_image", run(&rt, options))?)
 }

@@ -97,7 +97,8 @@ impl<'a, L: Bank, R: Bank> Beside<'a, L, R> {
         self.execute(decode(word))
     }
 
-    fn advance(&mut self, code: &[u8], lines: Lines) -> Result<(), EngineFault>
+    // One cycle with the lines as given.
+    pub(crate) fn advance(&mut self, code: &[u8], lines: Lines) -> Result<(), EngineFault>
         ensures { Gives L.Bank.ports R.Bank.ports (cycle_of code.now lines.reset lines.halt) self.old self.new result }
     {
         if lines.reset {

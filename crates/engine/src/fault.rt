@@ -2,7 +2,7 @@
 ghost use Rattle.std.specs.Prelude.{◌≡◌, Some};
 ghost use Rattle.engine.specs.Faults.{reported, fault_text};
 
-use faults::Fault;
+use faults::{Fault, write_report};
 use std::error::Error;
 use std::fmt;
 
@@ -39,9 +39,7 @@ impl fmt::Display for EngineFault {
     ghost output = { λ f. Some (fault_text f) };
 
     fn fmt<W: fmt::Write>(&self, f: &mut fmt::Formatter<W>) -> fmt::Result {
-        let number = self.number();
-        let place = self.place();
-        write!(f, "engine {number} at {place}")
+        write_report(f, "engine", self.report())
     }
 }
 

@@ -2,5 +2,7 @@
 #![tactic(auto)]
 
 mod fault;
+mod report;
 
 pub use fault::Fault;
+pub use report::write_report;

@@ -1,8 +1,10 @@
-// A program's input: the file at a path, or standard input, as far as an image may go.
+// What programs share: their input, which is the file at a path or standard input as far as an image may go, and how they end.
 #![tactic(auto)]
 
 ghost use Rattle.std.specs.Prelude.{◌≡◌, ◌≤◌, length, take, IfOk, IfSome};
+ghost use Rattle.std.specs.Process.{exit_status};
 ghost use Rattle.files.specs.Files.{most_read};
+ghost use Rattle.files.specs.Endings.{status_of};
 
 use anyhow::anyhow;
 use image::MOST_BYTES;
@@ -10,6 +12,7 @@ use std::alloc::Global;
 use std::fs::File;
 use std::io;
 use std::io::Read;
+use std::process::ExitCode;
 
 // A file that is too long for an image shows it by this many bytes.
 const MOST_READ: usize = MOST_BYTES + 1;
@@ -46,5 +49,18 @@ pub fn file_or_input(rt: &HostRuntime, path: Option<&str>) -> anyhow::Result<Vec
     match path {
         Some(path) => file_at(rt, path),
         None => Ok(bytes_of(rt.alloc(), rt.stdin())?),
+    }
+}
+
+// How a program ends: with its status, or with a message on standard error and status 1.
+pub fn ended(rt: &HostRuntime, program: &str, ran: anyhow::Result<ExitCode>) -> io::Result<ExitCode>
+    ensures { IfOk result (λ status. exit_status status ≡ status_of ran) }
+{
+    match ran {
+        Ok(status) => Ok(status),
+        Err(error) => {
+            eprintln!(rt; "{program}: {error}")?;
+            Ok(ExitCode::FAILURE)
+        }
     }
 }

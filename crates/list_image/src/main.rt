@@ -3,7 +3,7 @@
 #![tactic(auto)]
 
 use anyhow::anyhow;
-use files::file_or_input;
+use files::{ended, file_or_input};
 use image::read;
 use listing::Listing;
 use std::io::{BufWriter, Write};
@@ -39,11 +39,5 @@ fn run(rt: &HostRuntime) -> anyhow::Result<ExitCode> {
 }
 
 fn main(rt: HostRuntime) -> io::Result<ExitCode> {
-    match run(&rt) {
-        Ok(status) => Ok(status),
-        Err(error) => {
-            eprintln!(rt; "list_image: {error}")?;
-            Ok(ExitCode::FAILURE)
-        }
-    }
+    ended(&rt, "list_image", run(&rt))
 }

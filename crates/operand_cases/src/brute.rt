@@ -75,16 +75,26 @@ pub(crate) fn image_of_two<F: Fn(u8, u8) -> u8>(operation: F, x: &Members, y: &M
     out
 }
 
-// Whether some member has `value` at a place.
-fn may(x: &Members, place: u8, value: bool) -> bool {
-    (0..=255u8)
-        .zip(x)
-        .any(|(b, is_member)| *is_member && bit_of(b, place) == value)
+// For each place, whether some member has `value` there.
+fn places_with(x: &Members, value: bool) -> [bool; 8] {
+    let mut out = [false; 8];
+    for (place, has) in (0..8u8).zip(out.iter_mut()) {
+        *has = (0..=255u8).any(|b| x[b as usize] && bit_of(b, place) == value);
+    }
+    out
 }
 
-// The bytes each of whose bits some member has.
+// The bytes each of whose bits some member has. The members are gone through once for each place and value, not for each byte.
 pub(crate) fn bit_by_bit(x: &Members) -> Members {
-    members_where(|b| (0..8u8).all(|place| may(x, place, bit_of(b, place))))
+    let zeros = places_with(x, false);
+    let ones = places_with(x, true);
+    members_where(|b| {
+        (0..8u8).zip(zeros.iter().zip(&ones)).all(|(place, (zero, one))| if bit_of(b, place) {
+            *one
+        } else {
+            *zero
+        })
+    })
 }
 
 pub(crate) fn union_of(x: &Members, y: &Members) -> Members {

@@ -1,26 +1,10 @@
 // Comparing the answers of a kind.
 use crate::brute::{
-    Members, bit_by_bit, carry, image_of_one, image_of_two, is_inside, kept, members_where,
-    rotated, sum, union_of,
+    Members, carry, image_of_one, image_of_two, is_inside, kept, members_where, rotated, sum,
+    union_of,
 };
 use operands::{Operand, Spreading};
 use std::fmt;
-
-// What an answer should have: just what members give, or all that their bits allow.
-#[derive(Clone, Copy)]
-pub(crate) enum Outcomes {
-    Exact,
-    BitByBit,
-}
-
-impl Outcomes {
-    fn expected(self, image: Members) -> Members {
-        match self {
-            Outcomes::Exact => image,
-            Outcomes::BitByBit => bit_by_bit(&image),
-        }
-    }
-}
 
 fn members<K: Operand>(x: K) -> Members {
     members_where(|b| x.contains(b))
@@ -32,6 +16,7 @@ pub(crate) struct Comparison {
     differ: u64,
 }
 
+// What an answer should have is made from what the members give by `expected`.
 impl Comparison {
     fn note<K: Operand>(&mut self, answer: K, expected: Members) {
         self.answers = self.answers.saturating_add(1);
@@ -40,44 +25,62 @@ impl Comparison {
         }
     }
 
-    fn compare_one<K: Operand>(&mut self, x: K, outcomes: Outcomes) {
+    fn compare_one<K: Operand, E: Fn(Members) -> Members + Copy>(&mut self, x: K, expected: E)
+        requires { E.IsAlwaysCallable expected }
+    {
         let has = members(x);
         for count in 0..17u8 {
             let rotated = image_of_one(|b| rotated(b, count), &has);
-            self.note(x.rotate_right(count), outcomes.expected(rotated));
+            self.note(x.rotate_right(count), expected(rotated));
             let kept = image_of_one(|b| kept(b, count), &has);
-            self.note(x.keep_lowest(count), outcomes.expected(kept));
+            self.note(x.keep_lowest(count), expected(kept));
         }
     }
 
-    fn compare_two<K: Operand>(&mut self, x: K, y: K, outcomes: Outcomes) {
+    fn compare_two<K: Operand, E: Fn(Members) -> Members + Copy>(&mut self, x: K, y: K, expected: E)
+        requires { E.IsAlwaysCallable expected }
+    {
         let left = members(x);
         let right = members(y);
         let (total, over) = x.add(y);
         let both = image_of_two(|a, b| a & b, &left, &right);
-        self.note(x.and(y), outcomes.expected(both));
+        self.note(x.and(y), expected(both));
         let either = image_of_two(|a, b| a ^ b, &left, &right);
-        self.note(x.xor(y), outcomes.expected(either));
+        self.note(x.xor(y), expected(either));
         let sums = image_of_two(sum, &left, &right);
-        self.note(total, outcomes.expected(sums));
+        self.note(total, expected(sums));
         let carries = image_of_two(carry, &left, &right);
-        self.note(over, outcomes.expected(carries));
+        self.note(over, expected(carries));
     }
 
     // A join has both, and tells whether it has more than the first; its rank then rises.
-    pub(crate) fn compare_join<K: Spreading>(&mut self, x: K, y: K, outcomes: Outcomes) {
+    pub(crate) fn compare_join<K: Spreading, E: Fn(Members) -> Members + Copy>(
+        &mut self,
+        x: K,
+        y: K,
+        expected: E,
+    )
+        requires { E.IsAlwaysCallable expected }
+    {
         let first = members(x);
         let (joined, added) = x.join(y);
-        let expected = outcomes.expected(union_of(&first, &members(y)));
-        if added == is_inside(&expected, &first) {
+        let both = expected(union_of(&first, &members(y)));
+        if added == is_inside(&both, &first) {
             self.differ = self.differ.saturating_add(1);
         }
-        self.note(joined, expected);
+        self.note(joined, both);
     }
 
-    pub(crate) fn compare<K: Operand>(&mut self, x: K, y: K, outcomes: Outcomes) {
-        self.compare_one(x, outcomes);
-        self.compare_two(x, y, outcomes);
+    pub(crate) fn compare<K: Operand, E: Fn(Members) -> Members + Copy>(
+        &mut self,
+        x: K,
+        y: K,
+        expected: E,
+    )
+        requires { E.IsAlwaysCallable expected }
+    {
+        self.compare_one(x, expected);
+        self.compare_two(x, y, expected);
     }
 }
 

@@ -4,7 +4,8 @@
 mod brute;
 mod compare;
 
-use crate::compare::{Comparison, Outcomes};
+use crate::brute::{Members, bit_by_bit};
+use crate::compare::Comparison;
 use marks::Marks;
 use numbers::Numbers;
 use operands::{Byte, Operand, Spreading};
@@ -21,7 +22,7 @@ fn compared_bytes() -> Comparison {
     for _ in 0..PAIRS {
         let x = Byte::constant(numbers.next_byte());
         let y = Byte::constant(numbers.next_byte());
-        comparison.compare(x, y, Outcomes::Exact);
+        comparison.compare(x, y, |image| image);
     }
     comparison
 }
@@ -39,14 +40,17 @@ fn some_operand<K: Spreading>(numbers: &mut Numbers) -> K {
     operand
 }
 
-fn compared<K: Spreading>(outcomes: Outcomes) -> Comparison {
+// `expected` makes what an answer should have from what the members give.
+fn compared<K: Spreading, E: Fn(Members) -> Members + Copy>(expected: E) -> Comparison
+    requires { E.IsAlwaysCallable expected }
+{
     let mut numbers = Numbers::new(SEED);
     let mut comparison = Comparison::default();
     for _ in 0..PAIRS {
         let x: K = some_operand(&mut numbers);
         let y: K = some_operand(&mut numbers);
-        comparison.compare(x, y, outcomes);
-        comparison.compare_join(x, y, outcomes);
+        comparison.compare(x, y, expected);
+        comparison.compare_join(x, y, expected);
     }
     comparison
 }
@@ -54,8 +58,8 @@ fn compared<K: Spreading>(outcomes: Outcomes) -> Comparison {
 fn main(rt: HostRuntime) -> io::Result<()> {
     let bytes = compared_bytes();
     println!(rt; "byte: {bytes}")?;
-    let marks = compared::<Marks>(Outcomes::BitByBit);
+    let marks = compared::<Marks, _>(|image| bit_by_bit(&image));
     println!(rt; "marks: {marks}")?;
-    let sets = compared::<Set>(Outcomes::Exact);
+    let sets = compared::<Set, _>(|image| image);
     println!(rt; "set: {sets}")
 }

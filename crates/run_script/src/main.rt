@@ -4,7 +4,7 @@
 #![tactic(auto)]
 
 use anyhow::anyhow;
-use files::file_at;
+use files::{ended, file_at};
 use image::read;
 use scripts::play;
 use std::io::{BufWriter, Read, Write};
@@ -53,11 +53,5 @@ fn run(rt: &HostRuntime) -> anyhow::Result<ExitCode> {
 }
 
 fn main(rt: HostRuntime) -> io::Result<ExitCode> {
-    match run(&rt) {
-        Ok(status) => Ok(status),
-        Err(error) => {
-            eprintln!(rt; "run_script: {error}")?;
-            Ok(ExitCode::FAILURE)
-        }
-    }
+    ended(&rt, "run_script", run(&rt))
 }

@@ -25,6 +25,7 @@ impl fmt::Display for Difference<'_> {
     }
 }
 
+// A loop, since the two texts may have unequal numbers of lines, and `zip` ends with the shorter.
 fn first_difference<'a>(answers: &'a str, expected: &'a str) -> Option<Difference<'a>> {
     let mut expected_lines = expected.lines();
     for line in answers.lines() {

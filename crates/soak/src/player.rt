@@ -61,6 +61,7 @@ impl Player {
         self.tally
     }
 
+    // As `Bench::drive`, over twins: a type for two sides of either kind would take more lines than these arms.
     fn drive(&mut self, side: Side, port: u8, value: u8) {
         match side {
             Side::Left => self.left.drive(port, value),
@@ -109,14 +110,16 @@ impl Player {
         self.tally.ports = self.tally.ports.saturating_add(512);
         let changed = self.left.changed().saturating_add(self.right.changed());
         self.tally.changed = self.tally.changed.saturating_add(changed);
-        if let Some(port) = self.left.difference(&subject.left) {
-            let side = Side::Left;
-            return Some(Difference::Port { side, port });
-        }
-        let side = Side::Right;
-        self.right
-            .difference(&subject.right)
-            .map(|port| Difference::Port { side, port })
+        let left = self
+            .left
+            .difference(&subject.left)
+            .map(|port| (Side::Left, port));
+        left.or_else(|| {
+            self.right
+                .difference(&subject.right)
+                .map(|port| (Side::Right, port))
+        })
+        .map(|(side, port)| Difference::Port { side, port })
     }
 
     // What differs after a call, by the answer, the machine or, now and then, the banks.
