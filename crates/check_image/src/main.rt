@@ -32,10 +32,7 @@ fn run(rt: &HostRuntime, options: Options) -> anyhow::Result<ExitCode> {
     };
     match verdict {
         Ok(acceptance) => {
-            println!(rt;
-                "accept words {} reached {}",
-                acceptance.words, acceptance.reached
-            )?;
+            println!(rt; "{acceptance}")?;
             Ok(ExitCode::SUCCESS)
         }
         Err(fault) => {

@@ -3,7 +3,7 @@ ghost use Rattle.std.specs.Prelude.{◌≡◌, Some};
 ghost use Rattle.checker.specs.Faults.{breach_number, reported, fault_text};
 ghost use Rattle.checker.specs.Passing.{passed, scan_passed};
 
-use faults::Fault;
+use faults::{Fault, write_report};
 use flow::Breach;
 use image::FileFault;
 use scan::ScanFault;
@@ -74,10 +74,7 @@ impl fmt::Display for CheckFault {
     fn fmt<W: fmt::Write>(&self, f: &mut fmt::Formatter<W>) -> fmt::Result {
         match self {
             CheckFault::File(fault) => write!(f, "{fault}"),
-            _ => {
-                let (number, place) = self.report();
-                write!(f, "check {number} at {place}")
-            }
+            _ => write_report(f, "check", self.report()),
         }
     }
 }

@@ -3,7 +3,8 @@
 --   fault_text f    the same as text: `file `, the number, ` at ` and the place, both in decimal
 --   Occurs file f   what is wrong with a file that has the fault f
 --   rank f          the order of checking: grants are tried one by one, each by its bytes before its order
-use Rattle.std.specs.Prelude.{◌≡◌, ℕ, suc, ◌+◌, ◌*◌, ◌<◌, ◌≤◌, ◌⊎◌, List, ◌++◌, length, codes, decimal}
+use Rattle.std.specs.Prelude.{◌≡◌, ℕ, suc, ◌+◌, ◌*◌, ◌<◌, ◌≤◌, ◌⊎◌, List, length, codes, decimal}
+use Rattle.faults.specs.Reports.{report_text}
 use Rattle.image.specs.declared.fault.FileFault.{FileFault}
 use Rattle.image.specs.declared.fault.FileFault.TheVariants.{Size, Format, WordCount, CodePlace, GrantCount, GrantPlace, Overlap, Entry, Order}
 use Rattle.image.specs.Files.{format, word_count, start_of_code, end_of_code, count_of_grants, start_of_grants, end_of_grants, entry_place, bank_at, spare_at, key_at}
@@ -20,7 +21,7 @@ reported (Entry p) = (8, p)
 reported (Order p) = (9, p)
 
 abbrev pub fault_text : FileFault → List ℕ
-fault_text f = codes "file " ++ (decimal (reported f).0 ++ (codes " at " ++ decimal (reported f).1))
+fault_text f = report_text (codes "file") (reported f).0 (decimal (reported f).1)
 
 abbrev pub Occurs : List ℕ → FileFault → Type 0
 Occurs file Size = (length file < 20) ⊎ (32768 < length file)

@@ -2,7 +2,7 @@
 ghost use Rattle.std.specs.Prelude.{◌≡◌, Some};
 ghost use Rattle.image.specs.Faults.{reported, fault_text};
 
-use faults::Fault;
+use faults::{Fault, write_report};
 use std::fmt;
 
 #[derive(Clone, Copy, PartialEq, Eq, Debug)]
@@ -53,8 +53,6 @@ impl fmt::Display for FileFault {
     ghost output = { λ f. Some (fault_text f) };
 
     fn fmt<W: fmt::Write>(&self, f: &mut fmt::Formatter<W>) -> fmt::Result {
-        let number = self.number();
-        let place = self.place();
-        write!(f, "file {number} at {place}")
+        write_report(f, "file", self.report())
     }
 }
