@@ -5,15 +5,15 @@ use Rattle.std.specs.Int.Bits.{bit_and, bit_xor}
 use Rattle.std.proofs.lemmas.List.{get_or-map, map-set, length-map}
 use Rattle.std.proofs.lemmas.Bool.Decides.{nat_tests}
 use Rattle.bits.specs.Bits.{bit}
-use Rattle.bits.proofs.Bits.{bit-and, bit-xor}
+use Rattle.std.proofs.lemmas.Nat.Bits.{bit_at_and, bit_at_xor}
 use Rattle.banks.specs.Ports.{merged, Mixed, blank, Ports, port_at, Merges, stored, stored_ports}
 use Rattle.banks.specs.declared.port.Port.{Port}
 
 pub merged_mixed : (m new old : ℕ) → Mixed m new old (merged m new old)
 merged_mixed m new old k =
-    let x = bit-xor old (bit_and (bit_xor old new) m) k in
-    let a = bit-and (bit_xor old new) m k in
-    let d = bit-xor old new k in
+    let x = bit_at_xor old (bit_and (bit_xor old new) m) k in
+    let a = bit_at_and (bit_xor old new) m k in
+    let d = bit_at_xor old new k in
     let e : bit (merged m new old) k ≡ (bit old k + min ((bit old k + bit new k) % 2) (bit m k)) % 2 = x ∙ ap (λ n. (bit old k + n) % 2) (a ∙ ap (λ n. min n (bit m k)) d) in
     e ∙ grind (arith, nat_tests)
 

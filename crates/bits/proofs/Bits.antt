@@ -4,8 +4,7 @@ use native.Mathlib.Nat.{add-mul-div_right, mod-add-div', div-div-eq-div-mul}
 use lib.Bits.{bit_and, and_le_l}
 use lib.Pow.{mod-pow-add}
 use Rattle.std.proofs.lemmas.Nat.{div-add-mod', mod_below}
-use Rattle.std.proofs.lemmas.Nat.Bits.{bit_at_above, bit_at_cat_low, bit_at_ones, same_from_bits_below, bit_at_and}
-pub use Rattle.std.proofs.lemmas.Nat.Bits.{bit_at_and as bit-and, bit_at_xor as bit-xor}
+use Rattle.std.proofs.lemmas.Nat.Bits.{bit_at_above, bit_at_cat_low, same_from_bits_below, bit_at_and}
 use Rattle.std.proofs.lemmas.Bool.Decides.{Decides-eqb}
 use Rattle.operands.specs.Bytes.{rotated}
 use Rattle.operands.proofs.Rotations.{every, every_at}
@@ -35,10 +34,6 @@ unfolding rightly
 bit-rotated n b k hn hb hk =
     let all = every_at 8 (λ m. every 256 (λ a. every 8 (rightly m a))) refl n hn in
     (Decides-eqb _ _).0 (every_at 8 (rightly n b) (every_at 256 (λ a. every 8 (rightly n a)) all b hb) k hk)
-
--- every bit of a byte of n ones is 1
-pub bit-ones : (n k : ℕ) → n ≤ 8 → k < n → bit (2 ^ n - 1) k ≡ 1
-bit-ones n k h g = bit_at_ones n k g
 
 -- a sum's quotient
 div_sum : (x y p : ℕ) → zero < p → (x + y) / p ≡ x / p + y / p + (x % p + y % p) / p

@@ -21,7 +21,7 @@ use Rattle.engine.specs.Effects.{source_byte, delivered, transmitted_to, overflo
 use Rattle.engine.proofs.Laws.{core-with_byte}
 use Rattle.flow.specs.States.{State as Allowance, Fits, put, unready_part, Unready, selected, stored_in, source_bytes, carried_in, delivered_in, transmitted_in, after}
 use Rattle.flow.proofs.Parts.{number_below_16}
-use Rattle.flow.proofs.Storing.{put_here, put_other, unready_above, selected_register}
+use Rattle.flow.proofs.Storing.{put_here, put_other, unready_above, unready_below, selected_register}
 use Rattle.calls.proofs.Ports.{here_and_elsewhere}
 use Rattle.calls.proofs.Members.{source_small, source_has, result_has, carry_has}
 
@@ -52,16 +52,12 @@ allowed_to p a s c h =
     record { size = h.size; members = h.members; marks = λ side e. h.marks side (sym (ready_to side p a c) ∙ e) }
 
 -- what allows more
-part_below_18 : (side : Side) → unready_part side < 18
-part_below_18 Left = omega arith
-part_below_18 Right = omega arith
-
 pub allowed_more : (s u : Allowance) (c : Core) → Fits s u → Allowed s c → Allowed u c
 allowed_more s u c f h =
     record {
       size = h.size;
       members = λ r lt. f r (omega arith) _ (h.members r lt);
-      marks = λ side e. f (unready_part side) (part_below_18 side) 0 (h.marks side e);
+      marks = λ side e. f (unready_part side) (unready_below side) 0 (h.marks side e);
     }
 
 allowed_stored : (r : Register) (P : Bytes) (v : ℕ) (s : Allowance) (c : Core) → P v → Allowed s c → Allowed (stored_in r P s) (stored r v c)

@@ -8,7 +8,7 @@ use Rattle.instructions.specs.declared.instruction.Destination.TheVariants as de
 use Rattle.instructions.specs.declared.instruction.Instruction.{Instruction}
 use Rattle.instructions.specs.declared.instruction.Instruction.TheVariants.{Alu, Xec, Nzt, Xmit, Jmp}
 use Rattle.bits.specs.Bits.{bit}
-use Rattle.bits.proofs.Bits.{bit-ones}
+use Rattle.std.proofs.lemmas.Nat.Bits.{bit_at_ones}
 use Rattle.banks.specs.Ports.{Ports, port_at}
 use Rattle.effects.specs.Fields.{field_mask}
 use Rattle.effects.specs.Usage.{same_side, source_side, whole_port}
@@ -27,7 +27,7 @@ Covered (Some c) a b =
 
 -- a cover of all eight bits leaves none out
 whole_has : (j : ℕ) → j < 8 → bit 255 j ≡ 0 → ⊥
-whole_has j h z = omega (arith, bit-ones 8 j (omega arith) h)
+whole_has j h z = omega (arith, bit_at_ones 8 j h)
 
 same_or_whole : (b side : Side) (m j : ℕ) → j < 8 → bit (cond (same_side b side) m 255) j ≡ 0 → (b ≡ side) × (bit m j ≡ 0)
 same_or_whole Left Left m j h z = (refl, z)

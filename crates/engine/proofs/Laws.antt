@@ -38,10 +38,14 @@ set_there (x ∷ xs) (suc k) v d = set_there xs k v d
 keeps_all : (a : State) → KeepsAllButAddresses a a
 keeps_all a = record { registers = refl; left_ready = refl; right_ready = refl; left = refl; right = refl }
 
+-- what follows where two cases that differ would be equal
+impossible : {P : Type 0} → ◌≡◌ {A = ℕ} 0 1 → P
+impossible z = absurd (omega arith)
+
 pub side_cases : (s t : Side) → (s ≡ t) ⊎ (s ≡ t → ⊥)
 side_cases Left Left = inl refl
-side_cases Left Right = inr (λ e. let z : ◌≡◌ {A = ℕ} 0 1 = cc in absurd (omega arith))
-side_cases Right Left = inr (λ e. let z : ◌≡◌ {A = ℕ} 0 1 = cc in absurd (omega arith))
+side_cases Left Right = inr (λ e. impossible cc)
+side_cases Right Left = inr (λ e. impossible cc)
 side_cases Right Right = inl refl
 
 same_cond : (t : Bool) (x y z : ℕ) → x ≡ z → y ≡ z → cond t x y ≡ z
@@ -178,7 +182,7 @@ r10_kept : (o : Operation) (x y : ℕ) (a : State) → is_add o ≡ false → re
 r10_kept operation.Move x y a h = refl
 r10_kept operation.And x y a h = refl
 r10_kept operation.Xor x y a h = refl
-r10_kept operation.Add x y a h = let z : ◌≡◌ {A = ℕ} 0 1 = cc in absurd (omega arith)
+r10_kept operation.Add x y a h = impossible cc
 
 laws_alu : (o : Operation) (s : Source) (d : Destination) (a : State) → (destination_number d ≡ 8 → ⊥) → InstructionLaws (Alu o s d) a (performed (Alu o s d) a)
 laws_alu o s d a n =
@@ -295,9 +299,9 @@ Lawful code reset halt a o = CycleLaws code reset halt a o.0 o.1
 laws_idle : (code : List ℕ) (a : State) (r : Result (Unit {0}) EngineFault) (b : State) → ((f : EngineFault) → r ≡ Err f → b ≡ a) → ((i : Instruction) → meaning (word_at code a.core.ar) ≡ Some i → InstructionLaws i a b) → CycleLaws code false false a r b
 laws_idle code a r b refused word =
     record {
-      reset_only_addresses = λ e. let z : ◌≡◌ {A = ℕ} 0 1 = cc in absurd (omega arith);
-      reset_to_zero = λ e. let z : ◌≡◌ {A = ℕ} 0 1 = cc in absurd (omega arith);
-      halt_changes_nothing = λ e h. let z : ◌≡◌ {A = ℕ} 0 1 = cc in absurd (omega arith);
+      reset_only_addresses = λ e. impossible cc;
+      reset_to_zero = λ e. impossible cc;
+      halt_changes_nothing = λ e h. impossible cc;
       refusal_changes_nothing = refused;
       word_keeps_laws = λ i w. word i w.1.1;
     }
@@ -309,7 +313,7 @@ laws_served : (code : List ℕ) (a : State) (i : Instruction) (t : Bool) (f : En
 laws_served code a i false f m = laws_unchanged code a (Err f)
 laws_served code a i true f m =
     laws_idle code a (Ok tt) (performed i a)
-    (λ g e. let z : ◌≡◌ {A = ℕ} 0 1 = cc in absurd (omega arith))
+    (λ g e. impossible cc)
     (λ j e. let same : i ≡ j = cc in subst (λ (k : Instruction). InstructionLaws k a (performed i a)) same (laws_performed i a (meaning_spares_r10 (word_at code a.core.ar) i m)))
 
 laws_executed : (code : List ℕ) (a : State) (m : Option Instruction) → meaning (word_at code a.core.ar) ≡ m → Lawful code false false a (executed m a)
@@ -326,14 +330,14 @@ laws_cycled code true halt a =
     record {
       reset_only_addresses = λ e. keeps_jumped 0 0 a;
       reset_to_zero = λ e. (refl, refl);
-      halt_changes_nothing = λ e h. let z : ◌≡◌ {A = ℕ} 0 1 = cc in absurd (omega arith);
-      refusal_changes_nothing = λ f e. let z : ◌≡◌ {A = ℕ} 0 1 = cc in absurd (omega arith);
-      word_keeps_laws = λ i w. let u = w.0 in let z : ◌≡◌ {A = ℕ} 0 1 = cc in absurd (omega arith);
+      halt_changes_nothing = λ e h. impossible cc;
+      refusal_changes_nothing = λ f e. impossible cc;
+      word_keeps_laws = λ i w. let u = w.0 in impossible cc;
     }
 laws_cycled code false true a =
     record {
       reset_only_addresses = λ e. keeps_all a;
-      reset_to_zero = λ e. let z : ◌≡◌ {A = ℕ} 0 1 = cc in absurd (omega arith);
+      reset_to_zero = λ e. impossible cc;
       halt_changes_nothing = λ e h. refl;
       refusal_changes_nothing = λ f e. refl;
       word_keeps_laws = λ i w. laws_refused i a;

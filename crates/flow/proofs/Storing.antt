@@ -34,6 +34,10 @@ pub unready_above : (b : Side) → 16 ≤ unready_part b
 unready_above Left = omega arith
 unready_above Right = omega arith
 
+pub unready_below : (b : Side) → unready_part b < 18
+unready_below Left = omega arith
+unready_below Right = omega arith
+
 -- a select leaves the registers
 pub selected_register : (b : Option Side) (s : State) (k : ℕ) → k < 16 → Same (s k) (selected b s k)
 selected_register None s k h = (λ b m. m, λ b m. m)

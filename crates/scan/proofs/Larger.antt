@@ -17,6 +17,7 @@ use Rattle.flow.specs.declared.entry.Entry.{Entry}
 use Rattle.flow.specs.Entries.{allows, Entered}
 use Rattle.flow.specs.Breaches.{Cover, Exceeds, UsesUnready, Occurs, Meets}
 use Rattle.flow.proofs.Monotone.{next_more, reaches_more, runs_more}
+use Rattle.flow.proofs.Storing.{unready_below}
 use Rattle.scan.specs.Verdicts.{First, Clear, Lowest}
 use Rattle.scan.proofs.Shown.{first_same}
 
@@ -24,16 +25,12 @@ selector_part : (b : Side) → number_of (selector b) < 18
 selector_part Left = omega arith
 selector_part Right = omega arith
 
-unready_part_lem : (b : Side) → unready_part b < 18
-unready_part_lem Left = omega arith
-unready_part_lem Right = omega arith
-
 exceeds_more : (grants : List ℕ) (c : Cover) (s u : State) → Fits s u → Exceeds grants c s → Exceeds grants c u
 exceeds_more grants None s u f w = w
 exceeds_more grants (Some c) s u f w = (w.0, (f _ (selector_part c.0) w.0 w.1.0, w.1.1))
 
 unready_more : (i : Instruction) (s u : State) → Fits s u → UsesUnready i s → UsesUnready i u
-unready_more i s u f w = (w.0, (w.1.0, f _ (unready_part_lem w.0) 0 w.1.1))
+unready_more i s u f w = (w.0, (w.1.0, f _ (unready_below w.0) 0 w.1.1))
 
 seen_same : {K : Type 0} (o : Operations K) (cell cell' : ℕ → K) (left left' right right' : Bool) → ((r : ℕ) → r < 16 → cell r ≡ cell' r) → left ≡ left' → right ≡ right' → Fits (seen o cell left right) (seen o cell' left' right')
 seen_same {K} o cell cell' left left' right right' same e d r h b m =
