@@ -13,13 +13,7 @@ use operands::{Operand, Spreading};
 fn has_more<K: Operand>(x: K) -> bool
     ensures { Decides result ((b : ℕ) × (K.Operand.operations.has x b × (b ≢ 0))) }
 {
-    // a loop, since std has no lemma on what a call of `any` over an inclusive range tells
-    for b in 1..=255u8 {
-        if x.contains(b) {
-            return true;
-        }
-    }
-    false
+    (1..256usize).any(|b| x.contains(b as u8))
 }
 
 impl<K: Spreading> Entry<K> {

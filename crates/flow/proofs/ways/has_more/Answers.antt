@@ -1,23 +1,16 @@
-use Rattle.std.proofs.Common.{◌≡◌, ◌<◌, sym, subst, ⊎_elim, arith}
-use Rattle.std.proofs.lemmas.Bool.{cases_lt, both_ways, true≢false}
+use Rattle.std.proofs.Common.{◌≡◌, ◌<◌, ◌≤◌, ⊎_elim, arith, rules}
+use Rattle.std.proofs.lemmas.Bool.{cases_lt}
+use Rattle.flow.proofs.Ranges.{any_in_range}
 use Rattle.flow.proofs.ways.has_more.Goals as goal
 
-pub loop-b-preserved : goal.loop-b-preserved
-loop-b-preserved g c k p h m =
-    ⊎_elim (λ lt. c.loop-b.invariant k p lt m)
-    (λ ge. let e : k ≡ c.loop-b.b = omega arith in
-    both_ways _ c.if-contains.false (c.contains.ensures.1 (subst (g.K.Operand.operations.has c.args.x) e m)))
-    (cases_lt k c.loop-b.b)
-
-pub returns-else-contains : goal.returns-else-contains
-returns-else-contains g c = (
-  (λ e. absurd (true≢false (sym e))),
-  (λ w.
-      let k = w.0 in
-      let lt = g.K.Operand.lawful.bytes c.args.x k w.1.0 in
-      let p : 0 < k = ⊎_elim (λ z. z) (λ z. let e : k ≡ 0 = omega arith in absurd (w.1.1 e)) (cases_lt 0 k) in
-      absurd (⊎_elim (λ lt. c.loop-b.invariant k p lt w.1.0)
-      (λ ge. let e : k ≡ c.loop-b.b = omega arith in
-      both_ways _ c.if-contains.false (c.contains.ensures.1 (subst (g.K.Operand.operations.has c.args.x) e w.1.0)))
-      (cases_lt k c.loop-b.b))),
-)
+pub returns : goal.returns
+returns g c =
+    let has = g.K.Operand.operations.has c.args.x in
+    let found = any_in_range _ _ _ c.any.result has c.any.ensures.ran (λ k f called. search rules) (λ k f called. search rules) in (
+      λ t. let k = found.0 t in (k.0, (k.1.1.1, λ z. let low = k.1.0 in absurd (omega (arith, low, z)))),
+      λ h.
+          let b = h.0 in
+          let small : b < 256 = g.K.Operand.lawful.bytes c.args.x b h.1.0 in
+          let low : 1 ≤ b = ⊎_elim (λ z. let e : b ≡ 0 = omega arith in absurd (h.1.1 e)) (λ z. z) (cases_lt b 1) in
+          found.1 (b, (low, (small, h.1.0))),
+    )
