@@ -1,5 +1,6 @@
 -- A machine and two banks that are lent together. Assumes nothing.
 --   seen l r b         what is lent: the machine, and the ports of each bank
+--   SameLoans a b      the machine and both banks of b are those that a lends
 --   Does l r f a b     what was lent became what f makes of it, and the same machine and banks are lent still
 --   Gives l r f a b x  the same where f answers too, and the answer is x
 use Rattle.std.specs.Prelude.{◌≡◌, Result}

@@ -54,7 +54,8 @@ pub trait Spreading: Operand {
     fn all() -> Self
         ensures { Same (Self.Operand.operations.has result) Every };
 
-    // An operand that contains both, and whether it has a member that the first lacks.
+    // An operand that contains both, and whether it has a member that the first lacks. A pair and no Option, since the join is
+    // wanted also where it adds nothing.
     fn join(self, other: Self) -> (Self, bool)
         ensures members { Same (Self.Operand.operations.has result.0) (joined self other) }
         ensures first { Inside (Self.Operand.operations.has self) (joined self other) }

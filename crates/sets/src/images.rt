@@ -57,7 +57,7 @@ fn rows<F: Fn(u8, Bits) -> Bits>(row: F, xs: Bits, ys: Bits) -> Bits
     out
 }
 
-// The same; the smaller set has fewer rows.
+// The same; the smaller set has fewer rows, and no operation minds which set is first.
 pub(crate) fn combined<F: Fn(u8, Bits) -> Bits>(row: F, xs: Bits, ys: Bits) -> Bits
     requires { F.IsAlwaysCallable row }
     ensures { (f : Two) → GivesRows f (F.post row) → Same (In (number result)) (exact_twos f (In (number xs)) (In (number ys))) }
