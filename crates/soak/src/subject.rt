@@ -76,30 +76,28 @@ impl<'a> Subject<'a> {
             .is_some_and(|status| Status(*status).has_entry())
     }
 
-    fn register_difference(&self, machine: &Machine) -> Option<Difference> {
-        let pc = machine.pc as usize;
-        machine
-            .registers
-            .iter()
-            .enumerate()
-            .find(|(number, byte)| !self.allows(pc, *number, **byte))
-            .map(|(number, byte)| Difference::Register {
-                number,
-                byte: *byte,
-            })
+    fn compare_register(&self, pc: usize, number: usize, byte: u8) -> Result<(), Difference> {
+        if self.allows(pc, number, byte) {
+            Ok(())
+        } else {
+            Err(Difference::Register { number, byte })
+        }
     }
 
-    // What of a machine the table excludes.
-    pub(crate) fn machine_difference(&self, machine: &Machine) -> Option<Difference> {
+    // Whether the table allows what a machine holds.
+    pub(crate) fn compare(&self, machine: &Machine) -> Result<(), Difference> {
         let words = word_count(self.code);
         let pc = machine.pc;
         let ar = machine.ar;
         if pc as usize >= words || ar as usize >= words {
-            return Some(Difference::Address { pc, ar });
+            return Err(Difference::Address { pc, ar });
         }
         if !self.reaches(pc as usize) {
-            return Some(Difference::Unreached { pc });
+            return Err(Difference::Unreached { pc });
         }
-        self.register_difference(machine)
+        for (number, byte) in machine.registers.iter().enumerate() {
+            self.compare_register(pc as usize, number, *byte)?;
+        }
+        Ok(())
     }
 }
