@@ -1,4 +1,5 @@
 // Sets of bytes the slow way: every member is tried.
+use std::array;
 
 pub(crate) type Members = [bool; 256];
 
@@ -37,11 +38,7 @@ pub(crate) fn carry(a: u8, b: u8) -> u8 {
 pub(crate) fn members_where<F: Fn(u8) -> bool>(is_member: F) -> Members
     requires { F.IsAlwaysCallable is_member }
 {
-    let mut out = [false; 256];
-    for (b, member) in (0..=255u8).zip(out.iter_mut()) {
-        *member = is_member(b);
-    }
-    out
+    array::from_fn(|b| is_member(b as u8))
 }
 
 // Adds what an operation gives from the members.

@@ -8,6 +8,7 @@ use bench::Call;
 use engine::{EngineFault, LONGEST_RUN, Lines, Machine};
 use instructions::Side;
 use numbers::Numbers;
+use std::array;
 
 const CALLS: u64 = 2_000;
 
@@ -30,11 +31,7 @@ pub(crate) struct Player {
 }
 
 fn some_registers(numbers: &mut Numbers) -> [u8; 16] {
-    let mut registers = [0u8; 16];
-    for register in registers.iter_mut() {
-        *register = numbers.next_byte();
-    }
-    registers
+    array::from_fn(|_| numbers.next_byte())
 }
 
 // Whether a run answers as it should: all its cycles, or a refusal if it is too long.

@@ -6,6 +6,7 @@ use image::{Image, mask};
 use instructions::Side;
 use marks::Marks;
 use operands::Operand;
+use std::array;
 use words::word_count;
 
 // Code, the table that the check leaves of it, and for each port the bits that the grants withhold.
@@ -19,11 +20,7 @@ pub(crate) struct Subject<'a> {
 }
 
 fn withheld(grants: &[u8], side: Side) -> [u8; 256] {
-    let mut out = [0u8; 256];
-    for (port, bits) in (0..=255u8).zip(out.iter_mut()) {
-        *bits = 255 ^ mask(grants, side, port);
-    }
-    out
+    array::from_fn(|port| 255 ^ mask(grants, side, port as u8))
 }
 
 impl<'a> Subject<'a> {

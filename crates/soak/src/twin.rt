@@ -3,6 +3,7 @@ use crate::difference::Difference;
 use banks::{Bank, Port, PortBank};
 use instructions::Side;
 use numbers::Numbers;
+use std::array;
 
 // A bank that a machine works on, and beside it one that only the outside drives.
 #[derive(Drop)]
@@ -24,11 +25,7 @@ fn some_port(numbers: &mut Numbers) -> Port {
 }
 
 fn some_ports(numbers: &mut Numbers) -> [Port; 256] {
-    let mut ports = [Port { byte: 0, mask: 0 }; 256];
-    for port in ports.iter_mut() {
-        *port = some_port(numbers);
-    }
-    ports
+    array::from_fn(|_| some_port(numbers))
 }
 
 impl Twin {
