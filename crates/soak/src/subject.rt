@@ -1,7 +1,7 @@
 // An accepted image.
 use crate::difference::Difference;
 use engine::Machine;
-use flow::Status;
+use flow::{Entry, Status, entry_at};
 use image::{Image, mask};
 use instructions::Side;
 use marks::Marks;
@@ -21,6 +21,18 @@ pub(crate) struct Subject<'a> {
 
 fn withheld(grants: &[u8], side: Side) -> [u8; 256] {
     array::from_fn(|port| 255 ^ mask(grants, side, port as u8))
+}
+
+fn compare_registers(entry: &Entry<Marks>, registers: &[u8; 16]) -> Result<(), Difference> {
+    for (number, (operand, byte)) in entry.operands.iter().zip(registers).enumerate() {
+        if !operand.contains(*byte) {
+            return Err(Difference::Register {
+                number,
+                byte: *byte,
+            });
+        }
+    }
+    Ok(())
 }
 
 impl<'a> Subject<'a> {
@@ -60,25 +72,13 @@ impl<'a> Subject<'a> {
             .map(|(port, _)| port)
     }
 
-    fn allows(&self, pc: usize, number: usize, byte: u8) -> bool {
-        let place = pc.saturating_mul(16).saturating_add(number);
-        self.operands
-            .get(place)
-            .is_some_and(|operand| operand.contains(byte))
-    }
-
-    fn reaches(&self, pc: usize) -> bool {
-        self.status
-            .get(pc)
-            .is_some_and(|status| Status(*status).has_entry())
-    }
-
-    fn compare_register(&self, pc: usize, number: usize, byte: u8) -> Result<(), Difference> {
-        if self.allows(pc, number, byte) {
-            Ok(())
-        } else {
-            Err(Difference::Register { number, byte })
+    // The entry of an address that the program counter can stand at.
+    fn entry(&self, pc: u16) -> Option<Entry<Marks>> {
+        let status = Status(*self.status.get(pc as usize)?);
+        if !status.has_entry() {
+            return None;
         }
+        entry_at(self.operands, self.status, pc)
     }
 
     // Whether the table allows what a machine holds.
@@ -89,12 +89,7 @@ impl<'a> Subject<'a> {
         if pc as usize >= words || ar as usize >= words {
             return Err(Difference::Address { pc, ar });
         }
-        if !self.reaches(pc as usize) {
-            return Err(Difference::Unreached { pc });
-        }
-        for (number, byte) in machine.registers.iter().enumerate() {
-            self.compare_register(pc as usize, number, *byte)?;
-        }
-        Ok(())
+        let entry = self.entry(pc).ok_or(Difference::Unreached { pc })?;
+        compare_registers(&entry, &machine.registers)
     }
 }
