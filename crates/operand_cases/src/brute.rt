@@ -74,11 +74,7 @@ pub(crate) fn image_of_two<F: Fn(u8, u8) -> u8>(operation: F, x: &Members, y: &M
 
 // For each place, whether some member has `value` there.
 fn places_with(x: &Members, value: bool) -> [bool; 8] {
-    let mut out = [false; 8];
-    for (place, has) in (0..8u8).zip(out.iter_mut()) {
-        *has = (0..=255u8).any(|b| x[b as usize] && bit_of(b, place) == value);
-    }
-    out
+    array::from_fn(|place| (0..=255u8).any(|b| x[b as usize] && bit_of(b, place as u8) == value))
 }
 
 // The bytes each of whose bits some member has. The members are gone through once for each place and value, not for each byte.
