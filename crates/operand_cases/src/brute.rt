@@ -1,4 +1,5 @@
 // Sets of bytes the slow way: every member is tried.
+use std::array;
 
 pub(crate) type Members = [bool; 256];
 
@@ -37,11 +38,7 @@ pub(crate) fn carry(a: u8, b: u8) -> u8 {
 pub(crate) fn members_where<F: Fn(u8) -> bool>(is_member: F) -> Members
     requires { F.IsAlwaysCallable is_member }
 {
-    let mut out = [false; 256];
-    for (b, member) in (0..=255u8).zip(out.iter_mut()) {
-        *member = is_member(b);
-    }
-    out
+    array::from_fn(|b| is_member(b as u8))
 }
 
 // Adds what an operation gives from the members.
@@ -77,11 +74,7 @@ pub(crate) fn image_of_two<F: Fn(u8, u8) -> u8>(operation: F, x: &Members, y: &M
 
 // For each place, whether some member has `value` there.
 fn places_with(x: &Members, value: bool) -> [bool; 8] {
-    let mut out = [false; 8];
-    for (place, has) in (0..8u8).zip(out.iter_mut()) {
-        *has = (0..=255u8).any(|b| x[b as usize] && bit_of(b, place) == value);
-    }
-    out
+    array::from_fn(|place| (0..=255u8).any(|b| x[b as usize] && bit_of(b, place as u8) == value))
 }
 
 // The bytes each of whose bits some member has. The members are gone through once for each place and value, not for each byte.

@@ -31,40 +31,34 @@ fn soak(
     seed: u64,
     missed: Option<u8>,
     tally: &mut Tally,
-) -> Option<Finding> {
+) -> Result<(), Finding> {
     let mut numbers = Numbers::new(seed);
     for _ in 0..MACHINES {
         let mut player = Player::new(&mut numbers, missed);
-        let finding = player.play(subject, &mut numbers);
+        let played = player.play(subject, &mut numbers);
         tally.add(player.tally());
-        if finding.is_some() {
-            return finding;
-        }
+        played?;
     }
-    None
+    Ok(())
 }
 
 fn report<W: Write>(
     out: &mut W,
     name: &str,
     calls: u64,
-    finding: Option<Finding>,
+    played: Result<(), Finding>,
 ) -> io::Result<()> {
-    match finding {
-        Some(finding) => {
-            let call = finding.call;
-            let difference = finding.difference;
-            writeln!(
-                out,
-                "{name} calls {calls} differs at call {call}: {difference}"
-            )
-        }
-        None => writeln!(out, "{name} calls {calls} agrees"),
+    match played {
+        Ok(()) => writeln!(out, "{name} calls {calls} agrees"),
+        Err(Finding { call, difference }) => writeln!(
+            out,
+            "{name} calls {calls} differs at call {call}: {difference}"
+        ),
     }
 }
 
-fn word_of(finding: Option<Finding>) -> &'static str {
-    if finding.is_some() {
+fn word_of(played: Result<(), Finding>) -> &'static str {
+    if played.is_err() {
         "is noticed"
     } else {
         "is not noticed"
@@ -107,8 +101,8 @@ fn soak_image<W: Write>(
     let image = read(file.as_slice()).map_err(|fault| anyhow!("{name}: {fault}"))?;
     let subject = Subject::new(image, operands.as_slice(), status.as_slice());
     let mut tally = Tally::default();
-    let finding = soak(&subject, number, None, &mut tally);
-    report(out, name, tally.calls, finding)?;
+    let played = soak(&subject, number, None, &mut tally);
+    report(out, name, tally.calls, played)?;
     if number == 0 {
         report_misses(out, name, &subject, number)?;
     }

@@ -8,6 +8,7 @@ use bench::Call;
 use engine::{EngineFault, LONGEST_RUN, Lines, Machine};
 use instructions::Side;
 use numbers::Numbers;
+use std::array;
 
 const CALLS: u64 = 2_000;
 
@@ -30,11 +31,7 @@ pub(crate) struct Player {
 }
 
 fn some_registers(numbers: &mut Numbers) -> [u8; 16] {
-    let mut registers = [0u8; 16];
-    for register in registers.iter_mut() {
-        *register = numbers.next_byte();
-    }
-    registers
+    array::from_fn(|_| numbers.next_byte())
 }
 
 // Whether a run answers as it should: all its cycles, or a refusal if it is too long.
@@ -69,15 +66,14 @@ impl Player {
         }
     }
 
-    fn cycle(&mut self, code: &[u8], lines: Lines) -> Option<Difference> {
+    fn cycle(&mut self, code: &[u8], lines: Lines) -> Result<(), Difference> {
         self.tally.cycles = self.tally.cycles.saturating_add(1);
         self.machine
             .cycle(code, &mut self.left.bank, &mut self.right.bank, lines)
-            .err()
-            .map(Difference::Refused)
+            .map_err(Difference::Refused)
     }
 
-    fn run(&mut self, code: &[u8], cycles: usize) -> Option<Difference> {
+    fn run(&mut self, code: &[u8], cycles: usize) -> Result<(), Difference> {
         let (finished, fault) = self
             .machine
             .run(code, &mut self.left.bank, &mut self.right.bank, cycles);
@@ -86,68 +82,65 @@ impl Player {
             self.tally.refused_runs = self.tally.refused_runs.saturating_add(1);
         }
         if is_answer(cycles, finished, fault) {
-            None
+            Ok(())
         } else {
-            Some(Difference::Run { cycles, finished })
+            Err(Difference::Run { cycles, finished })
         }
     }
 
-    fn make(&mut self, code: &[u8], call: Call) -> Option<Difference> {
+    fn make(&mut self, code: &[u8], call: Call) -> Result<(), Difference> {
         self.tally.calls = self.tally.calls.saturating_add(1);
         match call {
             Call::Drive { side, port, value } => {
                 self.drive(side, port, value);
-                None
+                Ok(())
             }
             Call::Cycle(lines) => self.cycle(code, lines),
             Call::Run { cycles } => self.run(code, cycles),
             // what the machine and the banks hold is compared after every call
-            Call::State => None,
+            Call::State => Ok(()),
         }
     }
 
-    fn bank_difference(&mut self, subject: &Subject<'_>) -> Option<Difference> {
+    // Whether each port of both banks agrees with its twin in the withheld bits.
+    fn compare_banks(&mut self, subject: &Subject<'_>) -> Result<(), Difference> {
         self.tally.ports = self.tally.ports.saturating_add(512);
         let changed = self.left.changed().saturating_add(self.right.changed());
         self.tally.changed = self.tally.changed.saturating_add(changed);
-        let left = self
-            .left
-            .difference(&subject.left)
-            .map(|port| (Side::Left, port));
-        left.or_else(|| {
-            self.right
-                .difference(&subject.right)
-                .map(|port| (Side::Right, port))
-        })
-        .map(|(side, port)| Difference::Port { side, port })
+        self.left.compare(Side::Left, &subject.left)?;
+        self.right.compare(Side::Right, &subject.right)
     }
 
-    // What differs after a call, by the answer, the machine or, now and then, the banks.
-    fn try_call(&mut self, subject: &Subject<'_>, number: u64, call: Call) -> Option<Difference> {
-        if let Some(difference) = self.make(subject.code, call) {
-            return Some(difference);
-        }
+    // Makes a call and compares the answer, the machine and, now and then, the banks.
+    fn try_call(
+        &mut self,
+        subject: &Subject<'_>,
+        number: u64,
+        call: Call,
+    ) -> Result<(), Difference> {
+        self.make(subject.code, call)?;
         self.tally.registers = self.tally.registers.saturating_add(16);
-        if let Some(difference) = subject.machine_difference(&self.machine) {
-            return Some(difference);
-        }
+        subject.compare(&self.machine)?;
         if number % BETWEEN == 0 {
-            return self.bank_difference(subject);
+            self.compare_banks(subject)?;
         }
-        None
+        Ok(())
     }
 
     // Makes calls up to the first difference. The calls have the numbers 1 to 2,000.
-    pub(crate) fn play(&mut self, subject: &Subject<'_>, numbers: &mut Numbers) -> Option<Finding> {
+    pub(crate) fn play(
+        &mut self,
+        subject: &Subject<'_>,
+        numbers: &mut Numbers,
+    ) -> Result<(), Finding> {
         for number in 1..CALLS + 1 {
             let call = some_call(numbers, &self.machine);
-            if let Some(difference) = self.try_call(subject, number, call) {
-                return Some(Finding {
+            self.try_call(subject, number, call)
+                .map_err(|difference| Finding {
                     call: number,
                     difference,
-                });
-            }
+                })?;
         }
-        None
+        Ok(())
     }
 }

@@ -1,11 +1,12 @@
 // An accepted image.
 use crate::difference::Difference;
 use engine::Machine;
-use flow::Status;
+use flow::{Entry, Status, entry_at};
 use image::{Image, mask};
 use instructions::Side;
 use marks::Marks;
 use operands::Operand;
+use std::array;
 use words::word_count;
 
 // Code, the table that the check leaves of it, and for each port the bits that the grants withhold.
@@ -19,11 +20,19 @@ pub(crate) struct Subject<'a> {
 }
 
 fn withheld(grants: &[u8], side: Side) -> [u8; 256] {
-    let mut out = [0u8; 256];
-    for (port, bits) in (0..=255u8).zip(out.iter_mut()) {
-        *bits = 255 ^ mask(grants, side, port);
+    array::from_fn(|port| 255 ^ mask(grants, side, port as u8))
+}
+
+fn compare_registers(entry: &Entry<Marks>, registers: &[u8; 16]) -> Result<(), Difference> {
+    for (number, (operand, byte)) in entry.operands.iter().zip(registers).enumerate() {
+        if !operand.contains(*byte) {
+            return Err(Difference::Register {
+                number,
+                byte: *byte,
+            });
+        }
     }
-    out
+    Ok(())
 }
 
 impl<'a> Subject<'a> {
@@ -63,43 +72,24 @@ impl<'a> Subject<'a> {
             .map(|(port, _)| port)
     }
 
-    fn allows(&self, pc: usize, number: usize, byte: u8) -> bool {
-        let place = pc.saturating_mul(16).saturating_add(number);
-        self.operands
-            .get(place)
-            .is_some_and(|operand| operand.contains(byte))
+    // The entry of an address that the program counter can stand at.
+    fn entry(&self, pc: u16) -> Option<Entry<Marks>> {
+        let status = Status(*self.status.get(pc as usize)?);
+        if !status.has_entry() {
+            return None;
+        }
+        entry_at(self.operands, self.status, pc)
     }
 
-    fn reaches(&self, pc: usize) -> bool {
-        self.status
-            .get(pc)
-            .is_some_and(|status| Status(*status).has_entry())
-    }
-
-    fn register_difference(&self, machine: &Machine) -> Option<Difference> {
-        let pc = machine.pc as usize;
-        machine
-            .registers
-            .iter()
-            .enumerate()
-            .find(|(number, byte)| !self.allows(pc, *number, **byte))
-            .map(|(number, byte)| Difference::Register {
-                number,
-                byte: *byte,
-            })
-    }
-
-    // What of a machine the table excludes.
-    pub(crate) fn machine_difference(&self, machine: &Machine) -> Option<Difference> {
+    // Whether the table allows what a machine holds.
+    pub(crate) fn compare(&self, machine: &Machine) -> Result<(), Difference> {
         let words = word_count(self.code);
         let pc = machine.pc;
         let ar = machine.ar;
         if pc as usize >= words || ar as usize >= words {
-            return Some(Difference::Address { pc, ar });
+            return Err(Difference::Address { pc, ar });
         }
-        if !self.reaches(pc as usize) {
-            return Some(Difference::Unreached { pc });
-        }
-        self.register_difference(machine)
+        let entry = self.entry(pc).ok_or(Difference::Unreached { pc })?;
+        compare_registers(&entry, &machine.registers)
     }
 }

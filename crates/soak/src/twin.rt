@@ -1,6 +1,9 @@
 // Two banks that start alike.
+use crate::difference::Difference;
 use banks::{Bank, Port, PortBank};
+use instructions::Side;
 use numbers::Numbers;
+use std::array;
 
 // A bank that a machine works on, and beside it one that only the outside drives.
 #[derive(Drop)]
@@ -22,11 +25,7 @@ fn some_port(numbers: &mut Numbers) -> Port {
 }
 
 fn some_ports(numbers: &mut Numbers) -> [Port; 256] {
-    let mut ports = [Port { byte: 0, mask: 0 }; 256];
-    for port in ports.iter_mut() {
-        *port = some_port(numbers);
-    }
-    ports
+    array::from_fn(|_| some_port(numbers))
 }
 
 impl Twin {
@@ -51,11 +50,15 @@ impl Twin {
         self.bank.read(port) ^ self.driven.read(port)
     }
 
-    // The first port that differs in a withheld bit.
-    pub(crate) fn difference(&self, withheld: &[u8; 256]) -> Option<usize> {
-        (0..=255u8)
+    // Whether the banks agree in the withheld bits of each port of a side; if not, the first port that differs.
+    pub(crate) fn compare(&self, side: Side, withheld: &[u8; 256]) -> Result<(), Difference> {
+        let differs = (0..=255u8)
             .zip(withheld)
-            .position(|(port, withheld)| self.bits(port) & *withheld != 0)
+            .position(|(port, withheld)| self.bits(port) & *withheld != 0);
+        match differs {
+            Some(port) => Err(Difference::Port { side, port }),
+            None => Ok(()),
+        }
     }
 
     // How many ports differ in any bit.
