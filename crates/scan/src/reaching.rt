@@ -23,16 +23,16 @@ fn earlier(x: Option<Breach>, y: Option<Breach>) -> Option<Breach>
 }
 
 // The breach that an instruction shows whatever it reaches.
-fn here_breach<K: Operand>(here: Option<Instruction>, entry: Entry<K>) -> Option<Breach>
-    ensures { First (HereShows here (allows K.Operand.operations entry)) result }
+fn here_breach<K: Operand>(here: Option<Instruction>, entry: &Entry<K>) -> Option<Breach>
+    ensures { First (HereShows here (allows K.Operand.operations entry.now)) result }
 {
     uses_unready(here?, entry).then_some(Breach::Unready)
 }
 
 impl Program<'_> {
     // The first breach that the word at `a` shows as it is reached from `p`.
-    fn word_breach<K: Spreading>(&self, entry: Entry<K>, p: u16, a: u16) -> Option<Breach>
-        ensures { First (WordShows K.Operand.operations self.now.code.now self.now.masks.grants.now (allows K.Operand.operations entry) p a) result }
+    fn word_breach<K: Spreading>(&self, entry: &Entry<K>, p: u16, a: u16) -> Option<Breach>
+        ensures { First (WordShows K.Operand.operations self.now.code.now self.now.masks.grants.now (allows K.Operand.operations entry.now) p a) result }
     {
         if lacks(self.code, a) {
             return Some(Breach::Outside);
@@ -47,9 +47,9 @@ impl Program<'_> {
     }
 
     // The first breach at `p`, from the state that `held` allows.
-    pub fn address_breach<K: Spreading>(&self, held: Entry<K>, p: u16) -> Option<Breach>
+    pub fn address_breach<K: Spreading>(&self, held: &Entry<K>, p: u16) -> Option<Breach>
         requires { p < words_in self.now.code.now }
-        ensures { First (Occurs K.Operand.operations self.now.code.now self.now.masks.grants.now (allows K.Operand.operations held) p) result }
+        ensures { First (Occurs K.Operand.operations self.now.code.now self.now.masks.grants.now (allows K.Operand.operations held.now) p) result }
     {
         let here = instruction_at(self.code, p);
         let first = first_target(here, p);

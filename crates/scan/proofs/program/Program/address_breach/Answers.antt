@@ -13,14 +13,14 @@ pub loop-a-init : goal.loop-a-init
 loop-a-init g c =
     let grants = c.args.self.now.masks.grants.now in
     let o = g.K.Operand.operations in
-    shown_none o c.args.self.now.code.now grants (allows o c.args.held) c.args.p c.instruction_at-here.result
+    shown_none o c.args.self.now.code.now grants (allows o c.args.held.now) c.args.p c.instruction_at-here.result
     c.first_target-first.result c.here_breach-found.result c.first_target-first.ensures c.here_breach-found.ensures
 
 pub loop-a-preserved : goal.loop-a-preserved
 loop-a-preserved g c =
     let grants = c.args.self.now.masks.grants.now in
     let o = g.K.Operand.operations in
-    let s = allows o c.args.held in
+    let s = allows o c.args.held.now in
     let code = c.args.self.now.code.now in
     let p = c.args.p in
     let here = c.instruction_at-here.result in
@@ -43,5 +43,5 @@ returns g c =
     let p = c.args.p in
     let here = c.instruction_at-here.result in
     let end : first_target here p + target_count here ≤ c.loop-a.a = omega arith in
-    shown_all o code grants (allows o c.args.held) p here c.loop-a.a c.loop-a.found
+    shown_all o code grants (allows o c.args.held.now) p here c.loop-a.a c.loop-a.found
     (meant_inside code p here c.requires c.instruction_at-here.ensures) end c.loop-a.invariant
