@@ -1,4 +1,6 @@
 // A whole listing.
+ghost use Rattle.std.specs.Iterator.{IsFinite};
+
 use crate::grant_line::grant_at;
 use crate::word_line::word_at;
 use image::Image;
@@ -10,15 +12,15 @@ pub struct Listing<'a> {
     pub image: Image<'a>,
 }
 
-fn write_words<W: fmt::Write>(f: &mut fmt::Formatter<W>, code: &[u8]) -> fmt::Result {
-    for line in (0..word_count(code)).filter_map(|address| word_at(code, address)) {
-        writeln!(f, "{line}")?;
-    }
-    Ok(())
-}
-
-fn write_grants<W: fmt::Write>(f: &mut fmt::Formatter<W>, grants: &[u8]) -> fmt::Result {
-    for line in (0..grants.len() / 4).filter_map(|entry| grant_at(grants, entry)) {
+// Each on a line of its own.
+fn write_lines<L: fmt::Display + Copy, Lines: Iterator<Item = L>, W: fmt::Write>(
+    f: &mut fmt::Formatter<W>,
+    lines: Lines,
+) -> fmt::Result
+    requires can { Lines.Iterator.can_next lines }
+    requires ends { IsFinite (Lines.Iterator.remaining lines) }
+{
+    for line in lines {
         writeln!(f, "{line}")?;
     }
     Ok(())
@@ -35,8 +37,14 @@ impl fmt::Display for Listing<'_> {
         writeln!(f, "format 1")?;
         writeln!(f, "words {words} at byte {code_place}")?;
         writeln!(f, "grants {entries} at byte {grant_place}")?;
-        write_words(f, code.bytes())?;
-        write_grants(f, grants.bytes())?;
+        write_lines(
+            f,
+            (0..words).filter_map(|address| word_at(code.bytes(), address)),
+        )?;
+        write_lines(
+            f,
+            (0..entries).filter_map(|entry| grant_at(grants.bytes(), entry)),
+        )?;
         write!(f, "image words {words} grants {entries}")
     }
 }

@@ -1,6 +1,7 @@
 -- What calls of a closure gave. Assumes nothing.
-use Rattle.std.proofs.Common.{◌≡◌, ℕ, ◌+◌, ◌<◌, ◌≤◌, Bool, false, List, Some, None, Option, Decides, sym, refl, subst, ⊎_elim, arith, slice_index, suc, zero}
+use Rattle.std.proofs.Common.{◌≡◌, ℕ, ◌+◌, ◌<◌, ◌≤◌, Bool, false, List, [], ◌∷◌, ◌++◌, length, Some, None, Option, Decides, sym, refl, subst, ⊎_elim, arith, slice_index, suc, zero}
 use Rattle.std.proofs.lemmas.Bool.{both_ways, cases_lt}
+use Rattle.std.specs.List.{range_with_len}
 use Rattle.std.specs.Array.{IsFromFnResultFrom}
 use Rattle.std.specs.Fn.{Called}
 use Rattle.std.specs.Option.{MatchOption}
@@ -27,3 +28,12 @@ decides_some (Some q) r Q P decides h = (
   (λ t. (q, (refl, (decides q h).0 t))),
   (λ w. let e = w.1.0 in let same : w.0 ≡ q = cc in (decides q h).1 (subst P same w.1.1)),
 )
+
+-- the numbers of a range, but for its last one
+pub range_back : (a : ℕ) (ys : List ℕ) (x : ℕ) → ys ++ (x ∷ []) ≡ range_with_len a (length (ys ++ (x ∷ []))) → (ys ≡ range_with_len a (length ys)) × (x ≡ a + length ys)
+range_back a [] x e = let h : x ≡ a = cc in (refl, omega arith)
+range_back a (y ∷ ys) x e =
+    let h : y ≡ a = cc in
+    let t : ys ++ (x ∷ []) ≡ range_with_len (a + 1) (length (ys ++ (x ∷ []))) = cc in
+    let r = range_back (a + 1) ys x t in
+    let z = r.0 in (cc, omega (arith, r.1))

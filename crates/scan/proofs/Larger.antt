@@ -10,7 +10,7 @@ use Rattle.operands.specs.Operations.{Operations, Lawful}
 use Rattle.effects.specs.Usage.{selector}
 use Rattle.flow.specs.declared.breach.Breach.{Breach}
 use Rattle.flow.specs.declared.breach.Breach.TheVariants.{NotPermitted, Outside, Chain, Unready, Withheld}
-use Rattle.flow.specs.States.{State, Fits, Alike, unready_part}
+use Rattle.flow.specs.States.{State, Fits, Alike}
 use Rattle.flow.specs.Ways.{instruction_at}
 use Rattle.flow.specs.Tables.{Table, marked, seen, holds, table_of, Rules, Under}
 use Rattle.flow.specs.declared.entry.Entry.{Entry}

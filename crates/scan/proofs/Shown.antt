@@ -16,7 +16,7 @@ use Rattle.flow.specs.Spans.{first_target, target_count}
 use Rattle.flow.specs.Breaches.{cover, Exceeds, UsesUnready, order, Occurs}
 use Rattle.flow.proofs.Spans.{reaches_within}
 use Rattle.scan.specs.Verdicts.{First}
-use Rattle.scan.specs.Signs.{earlier, Strays, RunShows, RunsFrom, Below, WordShows, HereShows, ShownBelow}
+use Rattle.scan.specs.Signs.{earlier, Strays, RunShows, RunsFrom, Below, WordShows, HereShows, ReachedShows, ShownBelow}
 
 pub first_same : (P Q : Breach → Type 0) (r : Option Breach) → ((k : Breach) → P k → Q k) → ((k : Breach) → Q k → P k) → First P r → First Q r
 first_same P Q None to from f = λ j h. f j (from j h)
@@ -76,7 +76,7 @@ module _ {K : Type 0} (o : Operations K) (code grants : List ℕ) (s : State) (p
     Shown a k = ShownBelow o code grants s p here a k
 
     abbrev Reached : Breach → ℕ → Type 0
-    Reached k a = ReachesBy o s p here a × WordShows o code grants s p a k
+    Reached k a = ReachedShows o code grants s p here a k
 
     -- no word is reached below the first target
     pub shown_none : (a : ℕ) (found : Option Breach) → a ≡ first_target here p → First (HereShows here s) found → First (Shown a) found
@@ -84,22 +84,14 @@ module _ {K : Type 0} (o : Operations K) (code grants : List ℕ) (s : State) (p
         first_same (HereShows here s) (Shown a) found (λ k h. inl h)
         (λ k h. ⊎_elim (λ w. w) (λ w. let le = (reaches_within o s p here w.0 w.1.1.0).0 in absurd (omega (arith, w.1.0))) h) f
 
-    -- one more word, which is reached and has its first breach
-    pub shown_more : (a : ℕ) (found word after : Option Breach) → after ≡ earlier found word → ReachesBy o s p here a → First (Shown a) found → First (WordShows o code grants s p a) word → First (Shown (a + 1)) after
-    shown_more a found word after e r f g =
+    -- one more word
+    pub shown_word : (a : ℕ) (found word after : Option Breach) → after ≡ earlier found word → First (Shown a) found → First (ReachedShows o code grants s p here a) word → First (Shown (a + 1)) after
+    shown_word a found word after e f g =
         subst (First (Shown (a + 1))) (sym e)
-        (first_same (λ k. Shown a k ⊎ WordShows o code grants s p a k) (Shown (a + 1)) (earlier found word)
-        (λ k h. ⊎_elim (λ w. ⊎_elim inl (λ b. inr (below_next a (Reached k) (inl b))) w) (λ w. inr (below_next a (Reached k) (inr (r, w)))) h)
-        (λ k h. ⊎_elim (λ w. inl (inl w)) (λ b. ⊎_elim (λ w. inl (inr w)) (λ w. inr w.1) (below_back a (Reached k) b)) h)
-        (first_either (Shown a) (WordShows o code grants s p a) found word f g))
-
-    -- or which is not reached
-    pub shown_past : (a : ℕ) (found after : Option Breach) → after ≡ found → (ReachesBy o s p here a → ⊥) → First (Shown a) found → First (Shown (a + 1)) after
-    shown_past a found after e r f =
-        subst (First (Shown (a + 1))) (sym e)
-        (first_same (Shown a) (Shown (a + 1)) found
-        (λ k h. ⊎_elim inl (λ b. inr (below_next a (Reached k) (inl b))) h)
-        (λ k h. ⊎_elim inl (λ b. ⊎_elim inr (λ w. absurd (r w.0)) (below_back a (Reached k) b)) h) f)
+        (first_same (λ k. Shown a k ⊎ Reached k a) (Shown (a + 1)) (earlier found word)
+        (λ k h. ⊎_elim (λ w. ⊎_elim inl (λ b. inr (below_next a (Reached k) (inl b))) w) (λ w. inr (below_next a (Reached k) (inr w))) h)
+        (λ k h. ⊎_elim (λ w. inl (inl w)) (λ b. ⊎_elim (λ w. inl (inr w)) (λ w. inr w) (below_back a (Reached k) b)) h)
+        (first_either (Shown a) (ReachedShows o code grants s p here a) found word f g))
 
     -- every word that runs stands below the end of the span
     pub shown_all : (n : ℕ) (found : Option Breach) → here ≡ instruction_at code p → first_target here p + target_count here ≤ n → First (Shown n) found → First (Occurs o code grants s p) found

@@ -5,6 +5,7 @@
 --   RunsFrom code a i          the word at a is the instruction i, and no XEC
 --   WordShows o code grants s p a k    the word at a shows it as it is reached from p
 --   HereShows here s k         what stands at p, `here`, shows it whatever it reaches: it uses a bank that may be unready
+--   ReachedShows o code grants s p here a k   the word at a is reached from p, where `here` stands, and shows it
 --   Below n P                  some number below n has P
 --   ShownBelow o code grants s p here a k   `here` shows it, or a word below a that is reached
 use Rattle.std.specs.Prelude.{◌≡◌, ℕ, ◌<◌, ◌≤◌, true, false, cond, ◌⊎◌, List, Some, None, Option, nat_lt}
@@ -54,9 +55,12 @@ HereShows here s Chain = ⊥
 HereShows here s Unready = (i : Instruction) × ((here ≡ Some i) × UsesUnready i s)
 HereShows here s Withheld = ⊥
 
+abbrev pub ReachedShows : {K : Type 0} → Operations K → List ℕ → List ℕ → State → ℕ → Option Instruction → ℕ → Breach → Type 0
+ReachedShows o code grants s p here a k = ReachesBy o s p here a × WordShows o code grants s p a k
+
 abbrev pub Below : ℕ → (ℕ → Type 0) → Type 0
 Below n P = (a : ℕ) × ((a < n) × P a)
 
 abbrev pub ShownBelow : {K : Type 0} → Operations K → List ℕ → List ℕ → State → ℕ → Option Instruction → ℕ → Breach → Type 0
 ShownBelow o code grants s p here a k =
-    HereShows here s k ⊎ Below a (λ b. ReachesBy o s p here b × WordShows o code grants s p b k)
+    HereShows here s k ⊎ Below a (λ b. ReachedShows o code grants s p here b k)

@@ -18,10 +18,9 @@ fn cover_from(origin: Option<Side>, field: Field) -> u8
 fn field_cover(origin: Option<Side>, destination: Destination) -> Option<(Side, u8)>
     ensures { result ≡ field_cover origin destination }
 {
-    match destination {
-        Destination::Register(_) => None,
-        Destination::Field(field) => Some((field.side, cover_from(origin, field))),
-    }
+    destination
+        .field()
+        .map(|field| (field.side, cover_from(origin, field)))
 }
 
 fn port_cover(whole: Option<Side>, destination: Destination) -> Option<(Side, u8)>

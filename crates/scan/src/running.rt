@@ -15,8 +15,8 @@ use operands::{Operand, Spreading};
 use words::word_count;
 
 // Whether the instruction uses a bank that may be unready.
-pub(crate) fn uses_unready<K: Operand>(instruction: Instruction, entry: Entry<K>) -> bool
-    ensures { Decides result (UsesUnready instruction (allows K.Operand.operations entry)) }
+pub(crate) fn uses_unready<K: Operand>(instruction: Instruction, entry: &Entry<K>) -> bool
+    ensures { Decides result (UsesUnready instruction (allows K.Operand.operations entry.now)) }
 {
     (entry.left && uses(instruction, Side::Left)) || (entry.right && uses(instruction, Side::Right))
 }
@@ -37,8 +37,8 @@ impl Program<'_> {
     }
 
     // Whether the instruction, run at `p`, may go on outside the image.
-    fn strays<K: Spreading>(&self, instruction: Instruction, entry: Entry<K>, p: u16) -> bool
-        ensures { Decides result (Strays K.Operand.operations (words_in self.now.code.now) (allows K.Operand.operations entry) p instruction) }
+    fn strays<K: Spreading>(&self, instruction: Instruction, entry: &Entry<K>, p: u16) -> bool
+        ensures { Decides result (Strays K.Operand.operations (words_in self.now.code.now) (allows K.Operand.operations entry.now) p instruction) }
     {
         self.lacks_some(entry.onward(instruction, p)) || self.lacks_some(entry.jump(instruction, p))
     }
@@ -47,10 +47,10 @@ impl Program<'_> {
     pub fn run_breach<K: Spreading>(
         &self,
         instruction: Instruction,
-        entry: Entry<K>,
+        entry: &Entry<K>,
         p: u16,
     ) -> Option<Breach>
-        ensures { First (RunShows K.Operand.operations (words_in self.now.code.now) self.now.masks.grants.now (allows K.Operand.operations entry) p instruction) result }
+        ensures { First (RunShows K.Operand.operations (words_in self.now.code.now) self.now.masks.grants.now (allows K.Operand.operations entry.now) p instruction) result }
     {
         if self.strays(instruction, entry, p) {
             Some(Breach::Outside)

@@ -27,7 +27,7 @@ impl Program<'_> {
         ensures { First (EntryShows K.Operand.operations self.now.code.now self.now.masks.grants.now (table_of K.Operand.operations status.now operands.now) p) result }
     {
         if Status(status[p as usize]).has_entry() {
-            self.address_breach(entry_at(operands, status, p)?, p)
+            self.address_breach(&entry_at(operands, status, p)?, p)
         } else {
             None
         }

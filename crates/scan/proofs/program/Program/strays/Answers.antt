@@ -15,7 +15,7 @@ returns-else-lacks_some g c =
     let o = g.K.Operand.operations in
     let jumped = c.lacks_some-else-lacks_some.ensures in (
       (λ t. let w = jumped.0 t in (w.0, (inr ((c.jump.ensures w.0).0 w.1.0), w.1.1))),
-      (λ w. ⊎_elim {B = Jumps o c.args.instruction (allows o c.args.entry) c.args.p w.0}
+      (λ w. ⊎_elim {B = Jumps o c.args.instruction (allows o c.args.entry.now) c.args.p w.0}
           (λ a. absurd (both_ways c.lacks_some.result c.if-lacks_some.false (c.lacks_some.ensures.1 (w.0, ((c.onward.ensures w.0).1 a, w.1.1)))))
           (λ a. jumped.1 (w.0, ((c.jump.ensures w.0).1 a, w.1.1)))
           w.1.0),

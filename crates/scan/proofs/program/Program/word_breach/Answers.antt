@@ -12,4 +12,4 @@ returns g c =
     let i = c.in-Some.instruction in
     let inside : a < words_in code = ⊎_elim (λ h. h) (λ h. absurd (both_ways c.lacks.result c.if-lacks.false (c.lacks.ensures.1 h))) (cases_lt a (words_in code)) in
     let meant = sym (meant_inside code a (Some i) inside c.in-Some.ensures) in
-    word_shows g.K.Operand.operations code c.args.self.now.masks.grants.now (allows g.K.Operand.operations c.args.entry) c.args.p a i (inside, (meant, sym c.if-is_xec.ensures)) c.run_breach.result c.run_breach.ensures
+    word_shows g.K.Operand.operations code c.args.self.now.masks.grants.now (allows g.K.Operand.operations c.args.entry.now) c.args.p a i (inside, (meant, sym c.if-is_xec.ensures)) c.run_breach.result c.run_breach.ensures
