@@ -4,7 +4,7 @@ ghost use Rattle.flow.specs.Tables.{has_entry, has_mark};
 ghost use Rattle.growth.specs.Memory.{Room};
 ghost use Rattle.growth.specs.Growth.{Blended, Flowed, Sent};
 
-use crate::due::due_status;
+use crate::due::due;
 use flow::{Entry, Status};
 use instructions::Side;
 use operands::{Operand, Spreading};
@@ -54,7 +54,7 @@ pub(crate) fn send<K: Spreading>(operands: &mut [K], status: &mut [u8], q: usize
         risen |= blend(bare, cell, new.operands[r]);
     }
     if risen {
-        status[q] = due_status(new.left | left, new.right | right);
+        status[q] = due(new.left | left, new.right | right).0;
     }
 }
 
