@@ -50,6 +50,7 @@ pub(crate) fn send<K: Spreading>(operands: &mut [K], status: &mut [u8], q: usize
     let right = had_mark(old, Side::Right);
     let mut risen = bare | is_new(new.left, left) | is_new(new.right, right);
     let cells = &mut operands[16 * q..16 * q + 16];
+    // The new operands by index: in and after a loop over iter_mut().zip(..) a proof does not know what the cells hold.
     for (r, cell) in cells.iter_mut().enumerate() {
         risen |= blend(bare, cell, new.operands[r]);
     }
