@@ -107,7 +107,7 @@ impl<K: Spreading> Entry<K> {
         ensures { Alike (allows K.Operand.operations result) (start K.Operand.operations) }
     {
         let mut operands = [K::all(); 16];
-        operands[8] = K::all().keep_lowest(1);
+        operands[Register::R10.number() as usize] = K::all().keep_lowest(1);
         Entry {
             operands,
             left: true,

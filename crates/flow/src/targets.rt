@@ -1,5 +1,5 @@
 // Which words run at an address.
-ghost use Rattle.std.specs.Prelude.{◌≡◌, ℕ, ◌+◌, ◌%◌, ◌<◌, if◌then◌else◌, None, Decides, nat_lt};
+ghost use Rattle.std.specs.Prelude.{◌≡◌, ℕ, ◌+◌, ◌%◌, ◌<◌, ◌⊎◌, if◌then◌else◌, None, Decides, nat_lt};
 ghost use Rattle.words.specs.Code.{words_in};
 ghost use Rattle.effects.specs.Addresses.{page_size, in_page};
 ghost use Rattle.flow.specs.States.{source_bytes};
@@ -49,30 +49,24 @@ pub fn target_count(instruction: Option<Instruction>) -> u16
     }
 }
 
-// Whether some member x has (offset + x) modulo 256 at `place`.
-fn hits_by_register<K: Operand>(x: K, offset: u8, place: u8) -> bool
-    ensures { Decides result (Hits (K.Operand.operations.has x) 256 offset place) }
+// Whether some member x has (offset + x) modulo `page` at `place`: the least byte that does, or one that lies pages above it.
+fn hits<K: Operand>(x: K, page: u16, offset: u8, place: u16) -> bool
+    requires pages { (page ≡ 32) ⊎ (page ≡ 256) }
+    requires inside { place < page }
+    ensures { Decides result (Hits (K.Operand.operations.has x) page offset place) }
 {
-    x.contains(place.wrapping_sub(offset))
+    let least = (place + page - offset as u16 % page) % page;
+    (0..256 / page).any(|k| x.contains((least + page * k) as u8))
 }
 
-// Whether some member x has (offset + x) modulo 32 at `place`.
-fn hits_by_field<K: Operand>(x: K, offset: u8, place: u8) -> bool
-    requires { place < 32 }
-    ensures { Decides result (Hits (K.Operand.operations.has x) 32 offset place) }
-{
-    let least = (place + 32 - offset % 32) % 32;
-    (0..8u8).any(|k| x.contains(least + 32 * k))
-}
-
-// Whether an XEC at `from`, by the operand x of its source, may run the word at `to`.
+// Whether an XEC at `from`, by the operand x of its source, may run the word at `to`. The page stands as a number in
+// each arm: as page_size(source), a check by marks took an eighth more instructions.
 fn executes<K: Operand>(source: Source, x: K, offset: u8, from: u16, to: u16) -> bool
     ensures { Decides result ((b : ℕ) × (K.Operand.operations.has x b × (to ≡ in_page (page_size source) from (offset + b)))) }
 {
     match source {
-        Source::Register { .. } => from / 256 == to / 256
-            && hits_by_register(x, offset, (to % 256) as u8),
-        Source::Field(_) => from / 32 == to / 32 && hits_by_field(x, offset, (to % 32) as u8),
+        Source::Register { .. } => from / 256 == to / 256 && hits(x, 256, offset, to % 256),
+        Source::Field(_) => from / 32 == to / 32 && hits(x, 32, offset, to % 32),
     }
 }
 

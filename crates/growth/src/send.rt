@@ -4,7 +4,7 @@ ghost use Rattle.flow.specs.Tables.{has_entry, has_mark};
 ghost use Rattle.growth.specs.Memory.{Room};
 ghost use Rattle.growth.specs.Growth.{Blended, Flowed, Sent};
 
-use crate::due::due_status;
+use crate::due::due;
 use flow::{Entry, Status};
 use instructions::Side;
 use operands::{Operand, Spreading};
@@ -50,11 +50,12 @@ pub(crate) fn send<K: Spreading>(operands: &mut [K], status: &mut [u8], q: usize
     let right = had_mark(old, Side::Right);
     let mut risen = bare | is_new(new.left, left) | is_new(new.right, right);
     let cells = &mut operands[16 * q..16 * q + 16];
+    // The new operands by index: in and after a loop over iter_mut().zip(..) a proof does not know what the cells hold.
     for (r, cell) in cells.iter_mut().enumerate() {
         risen |= blend(bare, cell, new.operands[r]);
     }
     if risen {
-        status[q] = due_status(new.left | left, new.right | right);
+        status[q] = due(new.left | left, new.right | right).0;
     }
 }
 

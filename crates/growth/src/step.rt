@@ -7,6 +7,7 @@ ghost use Rattle.growth.specs.Measures.{load};
 ghost use Rattle.growth.specs.Memory.{Room, Quiet, Kept};
 ghost use Rattle.growth.specs.Growth.{RunsAs, Went, Growing};
 
+use crate::due::take_up;
 use crate::send::send_on;
 use flow::{Entry, entry_at, first_target, instruction_at, is_xec, target_count};
 use instructions::Instruction;
@@ -69,7 +70,7 @@ pub(crate) fn step<K: Spreading>(
     let Some(saved) = entry_at(operands, status, p) else {
         return 0;
     };
-    status[p as usize] %= 8;
+    take_up(status, p as usize);
     let here = instruction_at(code, p);
     let first = first_target(here, p);
     let n = word_count(code);

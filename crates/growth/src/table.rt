@@ -26,7 +26,7 @@ fn clear(status: &mut [u8], n: usize)
 fn first_due(status: &[u8]) -> Option<usize>
     ensures { MatchOption result (Quiet status.now (length status.now)) (λ p. (p < length status.now) × (8 ≤ slice_index status.now p) × Quiet status.now p) }
 {
-    status.iter().position(|byte| is_due(*byte))
+    status.iter().position(|byte| is_due(Status(*byte)))
 }
 
 // The lowest word that is due; none is due below `low`.

@@ -39,7 +39,7 @@ returns-then-risen g c =
     let lt : q < length c.args.status.now = omega arith in
     partly_flowed g.K.Operand.operations g.K.Spreading.joined g.K.Spreading.rank g.K.Spreading.MAX_RANK g.met.K.Spreading.bounded
     q c.args.new.now operands c.args.status.now _
-    _ _ 16 c.loop-r.risen c.due_status.result (cc) (cc) refl c.if-risen.true (cc)
+    _ _ 16 c.loop-r.risen c.due.result.0 (cc) (cc) refl c.if-risen.true (cc)
     (partly_part _ _ _ _ _ _ q _ c.loop-r.r c.args.new.now.operands operands c.loop-r.cells c.loop-r.risen n all (omega arith) (omega (arith, whole, c.loop-r.auto.cells)) c.loop-r.invariant) lt
 
 pub returns-else-risen : goal.returns-else-risen
