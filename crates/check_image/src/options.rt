@@ -86,7 +86,7 @@ impl Options {
 }
 
 // The options that the arguments give.
-pub fn read_options(rt: &HostRuntime) -> Result<Options, OptionsFault> {
+pub(crate) fn read_options(rt: &HostRuntime) -> Result<Options, OptionsFault> {
     let mut options = Options {
         kind: Kind::Marks,
         words: 512,

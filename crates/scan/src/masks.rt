@@ -24,7 +24,7 @@ fn bank_masks(grants: &[u8], side: Side) -> [u8; 256]
 }
 
 impl<'a> Masks<'a> {
-    pub fn read(grants: &'a [u8]) -> Masks<'a>
+    pub(crate) fn read(grants: &'a [u8]) -> Masks<'a>
         ensures { result.grants.now ≡ grants.now }
     {
         Masks {
@@ -34,7 +34,7 @@ impl<'a> Masks<'a> {
         }
     }
 
-    pub fn granted(&self, side: Side, port: usize) -> u8
+    pub(crate) fn granted(&self, side: Side, port: usize) -> u8
         requires { port < 256 }
         ensures { result ≡ mask_of self.now.grants.now side port }
     {

@@ -65,7 +65,7 @@ impl Program<'_> {
     }
 
     // The first breach at `p`, from the state that `held` allows.
-    pub fn address_breach<K: Spreading>(&self, held: &Entry<K>, p: u16) -> Option<Breach>
+    pub(crate) fn address_breach<K: Spreading>(&self, held: &Entry<K>, p: u16) -> Option<Breach>
         requires { p < words_in self.now.code.now }
         ensures { First (Occurs K.Operand.operations self.now.code.now self.now.masks.grants.now (allows K.Operand.operations held.now) p) result }
     {

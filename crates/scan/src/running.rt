@@ -44,7 +44,7 @@ impl Program<'_> {
     }
 
     // The first breach that the instruction shows, run at `p`.
-    pub fn run_breach<K: Spreading>(
+    pub(crate) fn run_breach<K: Spreading>(
         &self,
         instruction: Instruction,
         entry: &Entry<K>,

@@ -22,7 +22,7 @@ impl Masks<'_> {
     }
 
     // Whether what is covered goes beyond the grants.
-    pub fn exceeded<K: Operand>(&self, covered: Option<(Side, u8)>, entry: &Entry<K>) -> bool
+    pub(crate) fn exceeded<K: Operand>(&self, covered: Option<(Side, u8)>, entry: &Entry<K>) -> bool
         ensures { Decides result (Exceeds self.now.grants.now covered (allows K.Operand.operations entry.now)) }
     {
         // a match, since the closure of is_some_and would need a contract that repeats this one

@@ -47,7 +47,7 @@ fn answers(heap: Global, file: &[u8], script: &str) -> anyhow::Result<Vec<u8>> {
     Ok(out)
 }
 
-// Prints how a case comes out, and says whether it agrees.
+// Prints how a case comes out, and says whether it agrees: a flag, since a case that differs is counted and no error.
 fn compare<W: Write>(rt: &HostRuntime, out: &mut W, name: &str) -> anyhow::Result<bool> {
     let heap = rt.alloc();
     let file = fs::read(rt, format!(in heap; "{name}.img")?)?;
