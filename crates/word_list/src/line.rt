@@ -1,7 +1,7 @@
 // A line of the word list: the word in hex and `-`, or its class, source, destination and rebuilt word.
 // `R1>3` is a register and its rotation, `R1` one that is not rotated, `l4.2` and `r4.2` a bank field by bit and length, `#5` a constant.
-ghost use Rattle.std.specs.Prelude.{◌≡◌};
-ghost use Rattle.words.specs.Words.{meaning};
+ghost use Rattle.std.specs.Prelude.{◌≡◌, ◌+◌, ◌<◌, is_some, if◌then◌else◌};
+ghost use Rattle.words.specs.Words.{meaning, permitted};
 
 use instructions::{Destination, Field, Instruction, Side, Source};
 use std::fmt;
@@ -14,12 +14,26 @@ pub(crate) struct Line {
 }
 
 impl From<u16> for Line {
-    ghost from_gives = { λ w r. (r.word ≡ w) × (r.meaning ≡ meaning w) };
+    ghost from_gives = { λ w r. (r.word ≡ w) × (r.meaning ≡ meaning w) × (is_some r.meaning ≡ permitted w) };
 
     fn from(word: u16) -> Line {
         Line {
             word,
             meaning: decode(word),
+        }
+    }
+}
+
+impl Line {
+    // The number of permitted words with this one.
+    pub(crate) fn counted(&self, before: u32) -> u32
+        requires { before < 65536 }
+        ensures { result ≡ (if is_some self.now.meaning then 1 else 0) + before }
+    {
+        if self.meaning.is_some() {
+            before + 1
+        } else {
+            before
         }
     }
 }
