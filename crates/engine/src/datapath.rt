@@ -7,12 +7,11 @@ ghost use Rattle.engine.specs.Cycles.{core_of};
 ghost use Rattle.engine.specs.Loans.{seen, Does};
 
 use crate::beside::Beside;
-use crate::bytes::{compute, field_byte};
+use crate::bytes::{compute, field_byte, rotated};
 use crate::machine::Machine;
 use banks::{Bank, merge};
 use effects::{field_mask, raised, select_side, selector, source_side, whole_port};
 use instructions::{Destination, Field, Operation, Register, Side, Source};
-use operands::rotated_byte;
 
 // What is written to the port of a field: the latch, its bits in the field from the value.
 fn bus_byte(field: Field, value: u8, latch: u8) -> u8
@@ -91,10 +90,9 @@ impl<'a, L: Bank, R: Bank> Beside<'a, L, R> {
         ensures { result ≡ source_byte source (seen L.Bank.ports R.Bank.ports self.now) }
     {
         match source {
-            Source::Register { register, rotate } => rotated_byte(
-                self.machine.register(register),
-                rotate,
-            ),
+            Source::Register { register, rotate } => {
+                rotated(self.machine.register(register), rotate)
+            }
             Source::Field(field) => field_byte(self.read(field.side), field),
         }
     }
