@@ -8,7 +8,6 @@ ghost use Rattle.sets.specs.Sets.{set_has, OneOrTwo};
 ghost use Rattle.examples.specs.Worked.{WorkedExamples};
 
 use marks::Marks;
-use operands::zero_or_one_plus_one;
 use sets::Set;
 
 // The examples hold. Answers 0 or 1, plus 1, as marks and as a set.
@@ -17,7 +16,7 @@ pub fn worked_examples() -> (Marks, Set)
     ensures marks { Same (marks_has result.0) (λ b. b < 4) }
     ensures set { Same (set_has result.1) OneOrTwo }
 {
-    (zero_or_one_plus_one(), zero_or_one_plus_one())
+    (marks::zero_or_one_plus_one(), sets::zero_or_one_plus_one())
 }
 
 #[cfg(test)]

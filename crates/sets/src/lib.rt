@@ -6,5 +6,7 @@ mod images;
 mod operand;
 mod rows;
 mod set;
+mod worked;
 
 pub use set::Set;
+pub use worked::zero_or_one_plus_one;

@@ -1,8 +1,6 @@
 use Rattle.std.proofs.Common.{refl}
 use Rattle.words.specs.Words.{meaning_of}
 use Rattle.words.specs.Fields.{field_of}
-use Rattle.marks.proofs.Sums.{worked_sum as marks_sum}
-use Rattle.sets.proofs.Sums.{worked_sum as set_sum}
 use Rattle.examples.proofs.worked_examples.Goals as goal
 
 pub returns : goal.returns
@@ -19,6 +17,6 @@ returns c =
         executes = (refl, refl);
         branches = (refl, refl);
       };
-      marks = marks_sum c.zero_or_one_plus_one.result c.zero_or_one_plus_one.ensures;
-      set = set_sum c.zero_or_one_plus_one-2.result c.zero_or_one_plus_one-2.ensures;
+      marks = c.zero_or_one_plus_one.ensures;
+      set = c.zero_or_one_plus_one-2.ensures;
     }
