@@ -18,10 +18,10 @@ fn blend<K: Spreading>(bare: bool, operand: &mut K, new: K) -> bool
         *operand = new;
         return true;
     }
-    let (joined, added) = operand.join(new);
-    if added {
-        *operand = joined;
-    }
+    // The operand is stored in either case: without a branch, those of a word are joined side by side.
+    let old = *operand;
+    let (joined, added) = old.join(new);
+    *operand = if added { joined } else { old };
     added
 }
 
