@@ -29,6 +29,8 @@ pub fn bytes_of<R: Read + Drop>(heap: Global, source: R) -> io::Result<Vec<u8>>
     Ok(bytes)
 }
 
+// Not inlined, so that standard input can be read without the stack that a file takes.
+#[inline(never)]
 fn opened(rt: &HostRuntime, path: &str) -> io::Result<Vec<u8>>
     ensures { IfOk result (λ file. length file.items ≤ most_read) }
 {
@@ -64,3 +66,6 @@ pub fn ended(rt: &HostRuntime, program: &str, ran: anyhow::Result<ExitCode>) -> 
         }
     }
 }
+
+#[cfg(test)]
+mod tests;
