@@ -1,4 +1,4 @@
-use Rattle.std.proofs.Common.{◌≡◌, ◌^◌, ◌<◌, ap, ◌∙◌, arith}
+use Rattle.std.proofs.Common.{◌≡◌, ◌^◌, ◌<◌, ap, sym, subst, ◌∙◌, arith}
 use lib.Bits.{bit_or}
 use Rattle.std.proofs.lemmas.Nat.{pow_pos, le_or_l}
 use Rattle.operands.specs.Bytes.{two}
@@ -12,7 +12,7 @@ use Rattle.sets.proofs.operand.carries.Goals as goal
 
 pub made-requires : goal.made-requires
 made-requires c =
-    let first : 0 < number c.only.result = omega (arith, c.only.ensures, pow_pos c.carry_byte-least.result) in
+    let first : 0 < number c.only.result = subst (λ z. 0 < z) (sym c.only.ensures) (pow_pos _) in
     omega (arith, c.union.ensures, first, le_or_l (number c.only.result) (number c.only-2.result))
 
 pub returns : goal.returns
