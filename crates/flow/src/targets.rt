@@ -49,14 +49,12 @@ pub fn target_count(instruction: Option<Instruction>) -> u16
     }
 }
 
-// Whether some member x has (offset + x) modulo PAGE at `place`: the least byte that does, or one that lies pages above it.
-// PAGE is a constant, so that its remainders are masks; the closure takes it by a name, since the check knows what it captures.
-fn hits<K: Operand, const PAGE: u16>(x: K, offset: u8, place: u16) -> bool
-    requires pages { (PAGE ≡ 32) ⊎ (PAGE ≡ 256) }
-    requires inside { place < PAGE }
-    ensures { Decides result (Hits (K.Operand.operations.has x) PAGE offset place) }
+// Whether some member x has (offset + x) modulo `page` at `place`: the least byte that does, or one that lies pages above it.
+fn hits<K: Operand>(x: K, page: u16, offset: u8, place: u16) -> bool
+    requires pages { (page ≡ 32) ⊎ (page ≡ 256) }
+    requires inside { place < page }
+    ensures { Decides result (Hits (K.Operand.operations.has x) page offset place) }
 {
-    let page = PAGE;
     let least = (place + page - offset as u16 % page) % page;
     (0..256 / page).any(|k| x.contains((least + page * k) as u8))
 }
@@ -67,8 +65,8 @@ fn executes<K: Operand>(source: Source, x: K, offset: u8, from: u16, to: u16) ->
     ensures { Decides result ((b : ℕ) × (K.Operand.operations.has x b × (to ≡ in_page (page_size source) from (offset + b)))) }
 {
     match source {
-        Source::Register { .. } => from / 256 == to / 256 && hits::<K, 256>(x, offset, to % 256),
-        Source::Field(_) => from / 32 == to / 32 && hits::<K, 32>(x, offset, to % 32),
+        Source::Register { .. } => from / 256 == to / 256 && hits(x, 256, offset, to % 256),
+        Source::Field(_) => from / 32 == to / 32 && hits(x, 32, offset, to % 32),
     }
 }
 

@@ -24,7 +24,7 @@ only page offset place b sizes small at =
 pub returns : goal.returns
 returns g c =
     let o = g.K.Operand.operations in
-    let page = g.row.PAGE in
+    let page = c.args.page in
     let low = least page c.args.offset c.args.place in
     let found = any_in_range _ _ _ c.any.result (λ k. o.has c.args.x (low + page * k)) c.any.ensures.ran (λ k f called. search rules) (λ k f called. search rules) in (
       λ t. let k = found.0 t in (low + page * k.0, (k.1.1.1, leads page c.args.offset c.args.place k.0 c.requires.pages c.requires.inside)),
